@@ -1,0 +1,33 @@
+-- The jobs on a board.
+use mathlib.Core.Bool.{Bool, _&&_}
+use mathlib.Core.List.{List, map}
+use Prim.Native.Nat.{ℕ}
+use lib.Dec.{eqb}
+use lib.ListN.{take}
+use Rattle.lists.specs.Select.{how-many}
+use Rattle.rule.specs.Job.{Job}
+use Rattle.board.specs.declared.Place.{Place}
+use Rattle.board.specs.declared.Slot.{Slot}
+use Rattle.board.specs.declared.Board.{Board}
+
+abbrev pub slot-number : ℕ → Slot
+slot-number n = record { 0 = n }
+
+-- a place read as a job
+unfoldable pub job-in : Place → Job
+job-in x = record { ticket = x .ticket; admitted = x .admitted .0; last = x .last .0; grade = x .grade }
+
+-- a place that holds no job: all zero
+abbrev pub blank : Place
+blank = record { ticket = 0; admitted = slot-number 0; last = slot-number 0; grade = 0 }
+
+-- the places in use, and the jobs in them
+unfoldable pub used : Board → List Place
+used b = take (b .count) (b .places)
+
+unfoldable pub held : Board → List Job
+held b = map job-in (used b)
+
+-- how many of the jobs on the board were admitted in its slot
+unfoldable pub in-slot : Board → ℕ
+in-slot b = how-many (λ r. eqb (r .admitted) (b .slot .0)) (held b)

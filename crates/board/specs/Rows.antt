@@ -1,0 +1,38 @@
+-- Where each check stands: rows, and the first that fails.
+use mathlib.Core.Bool.{Bool, cond, not, _&&_}
+use mathlib.Core.List.{List, [], _∷_}
+use Prim.Native.Nat.{ℕ, suc, _^_}
+use lib.Dec.{leb, eqb}
+use Rattle.board.specs.Limits.{longest-laxity, most-in-slot, places-held, last-slot}
+
+-- a row of 01's table: its number, and whether it is given
+pub record Row : Type 0 where
+  pub number : ℕ
+  pub given : Bool
+
+infix 90 _if_
+unfoldable pub _if_ : ℕ → Bool → Row
+n if b = record { number = n; given = b }
+
+-- 'checks run in the order of the rows. The first that fails is the one given': 0 where none is
+unfoldable pub first-given : List Row → ℕ
+first-given [] = 0
+first-given (r ∷ rows) = cond (r .given) (r .number) (first-given rows)
+
+-- Rows 3 to 7, for admitting. They read a slot, a highest ticket, the number of jobs admitted in that slot and a depth: the board's, or the
+-- day book's.
+unfoldable pub admit-rows : (slot highest in-slot depth ticket laxity grade : ℕ) → List Row
+admit-rows slot highest in-slot depth ticket laxity grade =
+    3 if eqb slot (suc last-slot)
+    ∷ 4 if leb ticket highest
+    ∷ 5 if not (leb 1 laxity && leb laxity longest-laxity)
+    ∷ 6 if leb (2 ^ depth) grade
+    ∷ 7 if leb most-in-slot in-slot
+    ∷ []
+
+-- Rows 3 and 8, for closing with a lent list of so many entries.
+unfoldable pub close-rows : (slot lent : ℕ) → List Row
+close-rows slot lent =
+    3 if eqb slot (suc last-slot)
+    ∷ 8 if not (leb places-held lent)
+    ∷ []

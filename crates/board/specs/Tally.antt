@@ -1,0 +1,31 @@
+-- The tally: what one event makes of it.
+use mathlib.Core.Bool.{Bool, _||_}
+use mathlib.Core.List.{List, [], _∷_}
+use Prim.Native.Nat.{ℕ, zero, suc, _+_, _*_}
+use lib.Dec.{leb, ltb}
+use lib.ListN.{getD, set, replicate}
+use Rattle.board.specs.declared.Tally.{Tally}
+use Rattle.board.specs.declared.Counted.{Counted}
+use Rattle.board.specs.Rows.{_if_, first-given}
+
+-- 'It has a count for each kind and each of eight grades.' 'kind 0 admitted, 1 baked, 2 given up, with a grade'
+unfoldable pub cell : (kind grade : ℕ) → ℕ
+cell k g = k * 8 + g
+
+unfoldable pub count-at : Tally → (kind grade : ℕ) → ℕ
+count-at t k g = getD (t .counts) (cell k g) 0
+
+unfoldable pub zero-tally : Tally
+zero-tally = record { counts = replicate 24 0 }
+
+-- rows 9 and 10: 'kind above 2 or grade above 7', 'that count is already 8,000,000'
+unfoldable pub tally-number : Tally → (kind grade : ℕ) → ℕ
+tally-number t k g = first-given (9 if (ltb 2 k || ltb 7 g) ∷ 10 if leb 8_000_000 (count-at t k g) ∷ [])
+
+unfoldable pub counted-if : ℕ → Tally → (kind grade : ℕ) → Counted
+counted-if zero t k g = record { refusal = 0; tally = record { counts = set (t .counts) (cell k g) (count-at t k g + 1) } }
+counted-if (suc n) t k g = record { refusal = suc n; tally = t }
+
+-- 'takes in one event at a time'
+unfoldable pub counted : Tally → (kind grade : ℕ) → Counted
+counted t k g = counted-if (tally-number t k g) t k g

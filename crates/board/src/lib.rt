@@ -1,0 +1,90 @@
+// The board: its types and its four limits. What each call answers and leaves behind is defined in specs/.
+ghost use mathlib.Core.Path.{_≡_};
+ghost use Rattle.board.specs.Limits.{longest-laxity, most-in-slot, places-held, last-slot};
+
+// A number of slots counted from the present one: 01's wait, 000's laxity.
+#[repr(C)]
+pub struct Laxity(pub u32);
+
+// The number of a slot in the day book. Never compared with a laxity.
+#[repr(C)]
+pub struct Slot(pub u32);
+
+// A place of the board: a job, which 01 calls a rack, or all zero.
+#[repr(C)]
+pub struct Place {
+    pub ticket: u32,
+    pub admitted: Slot,
+    pub last: Slot,
+    pub grade: u8,
+}
+
+// The jobs that can still be baked stand in the first `count` places, by rising ticket.
+#[repr(C)]
+pub struct Board {
+    pub depth: u8,
+    pub slot: Slot,
+    pub highest: u32,
+    pub count: usize,
+    pub places: [Place; Board::PLACES],
+}
+
+impl Board {
+    // Longest wait.
+    pub const LONGEST_LAXITY: u32 = 32;
+
+    // Most racks admitted in a slot.
+    pub const MOST_IN_SLOT: usize = 8;
+
+    // Most racks held.
+    pub const PLACES: usize = 256;
+
+    // Last slot of a book.
+    pub const LAST_SLOT: u32 = 1_000_000;
+}
+
+// What opening answers. Every answer has 01's number of a refusal, or 0.
+#[repr(C)]
+pub struct Opened {
+    pub refusal: u8,
+    pub board: Board,
+}
+
+// What admitting answers: the job's last slot.
+#[repr(C)]
+pub struct Admitted {
+    pub refusal: u8,
+    pub last: Slot,
+    pub board: Board,
+}
+
+// What closing answers: the job baked, ticket 0 for 'empty', and how many jobs are given up.
+#[repr(C)]
+pub struct Closed {
+    pub refusal: u8,
+    pub ticket: u32,
+    pub grade: u8,
+    pub expired: u32,
+    pub board: Board,
+}
+
+// A count for each kind of event and each of eight grades, at kind * 8 + grade.
+#[repr(C)]
+pub struct Tally {
+    pub counts: [u32; 24],
+}
+
+// What the tally answers to an event.
+#[repr(C)]
+pub struct Counted {
+    pub refusal: u8,
+    pub tally: Tally,
+}
+
+// The limits of the definitions are the board's constants.
+fn limits()
+    ensures { λ r. do ⌜ (← ⟦Board::LONGEST_LAXITY⟧ .entry) ≡ longest-laxity ⌝ }
+    ensures { λ r. do ⌜ (← ⟦Board::MOST_IN_SLOT⟧ .entry) ≡ most-in-slot ⌝ }
+    ensures { λ r. do ⌜ (← ⟦Board::PLACES⟧ .entry) ≡ places-held ⌝ }
+    ensures { λ r. do ⌜ (← ⟦Board::LAST_SLOT⟧ .entry) ≡ last-slot ⌝ }
+{}

@@ -1,0 +1,4 @@
+pub mod Book
+pub mod Schedule
+pub mod Rule
+pub mod Rival

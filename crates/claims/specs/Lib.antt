@@ -1,0 +1,4 @@
+pub mod Calls
+pub mod DayBook
+pub mod OurPlan
+pub mod Demand3

@@ -1,0 +1,42 @@
+-- Fields read as numbers.
+use mathlib.Core.Bool.{Bool, true, false, cond, _&&_, _||_}
+use mathlib.Core.List.{List, [], _∷_}
+use Prim.Native.Nat.{ℕ, _+_, _-_, _*_}
+use lib.Dec.{leb, eqb}
+use lib.ListN.{length}
+use Rattle.lists.specs.Select.{every}
+use Rattle.lines.specs.Bytes.{Bytes}
+
+-- the byte is a decimal digit
+unfoldable pub is-digit : ℕ → Bool
+is-digit b = leb 48 b && leb b 57
+
+-- the value of digits, after those of value n
+unfoldable pub value-after : ℕ → Bytes → ℕ
+value-after n [] = n
+value-after n (b ∷ bs) = value-after (n * 10 + (b - 48)) bs
+
+unfoldable pub value : Bytes → ℕ
+value f = value-after 0 f
+
+-- '1 to 10 decimal digits', not 'above 4,294,967,295'
+unfoldable pub is-number : Bytes → Bool
+is-number f = leb 1 (length f) && leb (length f) 10 && every is-digit f && leb (value f) 4_294_967_295
+
+-- no byte at all
+unfoldable pub is-blank : Bytes → Bool
+is-blank f = eqb (length f) 0
+
+-- 'an A line's grade may be blank'
+unfoldable pub is-grade : Bytes → Bool
+is-grade f = is-blank f || is-number f
+
+-- 'A blank grade is 0.'
+unfoldable pub grade-value : Bytes → ℕ
+grade-value f = cond (is-blank f) 0 (value f)
+
+-- a field of one given byte
+unfoldable pub is-letter : ℕ → Bytes → Bool
+is-letter c [] = false
+is-letter c (b ∷ []) = eqb b c
+is-letter c (b ∷ (x ∷ bs)) = false

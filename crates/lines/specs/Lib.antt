@@ -1,0 +1,5 @@
+pub mod Bytes
+pub mod Fields
+pub mod Reading
+pub mod Printing
+pub mod Session

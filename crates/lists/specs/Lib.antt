@@ -1,0 +1,3 @@
+pub mod Select
+pub mod Least
+pub mod Rise

@@ -1,0 +1,38 @@
+-- The job that a slot bakes, the jobs that expire with it, and those that are left.
+use mathlib.Core.Bool.{Bool, true, false, cond, not, _&&_, _||_}
+use mathlib.Core.List.{List, [], _∷_}
+use mathlib.Core.Option.{Option, none, some}
+use Prim.Native.Nat.{ℕ}
+use lib.Dec.{leb, ltb, eqb}
+use Rattle.lists.specs.Select.{select}
+use Rattle.rule.specs.Job.{Job}
+use Rattle.rule.specs.Descent.{no-regret}
+
+-- 'the least last slot, on ties the lowest ticket'
+unfoldable pub sooner : Job → Job → Bool
+sooner r q = ltb (r .last) (q .last) || (eqb (r .last) (q .last) && leb (r .ticket) (q .ticket))
+
+unfoldable pub soonest-of : Job → Option Job → Job
+soonest-of r none = r
+soonest-of r (some q) = cond (sooner r q) r q
+
+unfoldable pub soonest : List Job → Option Job
+soonest [] = none
+soonest (r ∷ A) = some (soonest-of r (soonest A))
+
+-- 'Bake from it the rack with the least last slot, on ties the lowest ticket.'
+unfoldable pub baked : (now d : ℕ) → List Job → Option Job
+baked now d A = soonest (no-regret now d A)
+
+-- a job is the one baked: a ticket names one job
+unfoldable pub is-baked : Option Job → Job → Bool
+is-baked none r = false
+is-baked (some q) r = eqb (r .ticket) (q .ticket)
+
+-- 'gives up every other rack whose last slot is the present one': the jobs that expire
+unfoldable pub expires : ℕ → Option Job → Job → Bool
+expires now o r = eqb (r .last) now && not (is-baked o r)
+
+-- the jobs that stay for the next slot
+unfoldable pub stays : ℕ → Option Job → Job → Bool
+stays now o r = ltb now (r .last) && not (is-baked o r)

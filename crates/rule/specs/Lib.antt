@@ -1,0 +1,5 @@
+pub mod Job
+pub mod Grade
+pub mod Tight
+pub mod Descent
+pub mod Bake
