@@ -1,12 +1,12 @@
 -- What closing answers and leaves behind.
 use mathlib.Core.Bool.{Bool, not}
 use mathlib.Core.List.{List, _∷_, _++_, map}
-use mathlib.Core.Option.{Option, none, some}
+use mathlib.Core.Option.{Option}
 use Prim.Native.Nat.{ℕ, zero, suc, _+_, _-_}
 use lib.ListN.{length, replicate}
 use Rattle.lists.specs.Select.{select}
 use Rattle.rule.specs.Job.{Job}
-use Rattle.rule.specs.Bake.{baked, expires, stays}
+use Rattle.rule.specs.Bake.{baked, expires, stays, ticket-of, grade-of}
 use Rattle.board.specs.declared.Place.{Place}
 use Rattle.board.specs.declared.Board.{Board}
 use Rattle.board.specs.declared.Closed.{Closed}
@@ -41,15 +41,6 @@ moved-on b =
       count = length (kept b);
       places = kept b ++ replicate (places-held - length (kept b)) blank;
     }
-
--- ''Empty' is the answer only for a board with no racks; its ticket and grade are 0'
-unfoldable pub ticket-of : Option Job → ℕ
-ticket-of none = 0
-ticket-of (some r) = r .ticket
-
-unfoldable pub grade-of : Option Job → ℕ
-grade-of none = 0
-grade-of (some r) = r .grade
 
 unfoldable pub closed-if : ℕ → Board → Closed
 closed-if zero b =

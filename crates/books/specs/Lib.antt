@@ -2,3 +2,4 @@ pub mod Book
 pub mod Schedule
 pub mod Rule
 pub mod Rival
+pub mod NoRegretRule

@@ -2,3 +2,4 @@ pub mod Calls
 pub mod DayBook
 pub mod OurPlan
 pub mod Demand3
+pub mod Balance

@@ -2,7 +2,6 @@
 use mathlib.Core.Path.{_≡_, refl}
 use mathlib.Core.Bool.{Bool, true, false, _&&_, not, cond}
 use mathlib.Core.List.{List, [], _∷_, _++_, map}
-use mathlib.Core.Option.{Option, none, some}
 use Prim.Native.Nat.{ℕ, zero, suc, _+_}
 use lib.Dec.{eqb}
 use lib.ListN.{length}
@@ -14,7 +13,7 @@ use Rattle.rule.specs.Job.{Job, job, laxity, in-date}
 use Rattle.rule.specs.Grade.{bits, starts, graded, starting}
 use Rattle.rule.specs.Tight.{laxities, excess, smallest, tight-laxity, tight}
 use Rattle.rule.specs.Descent.{next-bit, descend, no-regret-after, no-regret}
-use Rattle.rule.specs.Bake.{sooner, soonest-of, soonest, baked, is-baked, expires, stays}
+use Rattle.rule.specs.Bake.{sooner, soonest-of, soonest, baked, is-baked, expires, stays, ticket-of}
 
 -- a closing: the ticket baked (0 for none) and the tickets given up
 record Closing : Type 0 where
@@ -48,10 +47,6 @@ numbered t (x ∷ xs) = job t 1 (x .wait) (x .grade) ∷ numbered (suc t) xs
 
 tickets : List Job → List ℕ
 tickets A = map (λ (r : Job). r .ticket) A
-
-ticket-of : Option Job → ℕ
-ticket-of none = 0
-ticket-of (some r) = r .ticket
 
 -- the first n closings from slot now on
 closings : (now d n : ℕ) → List Job → List Closing

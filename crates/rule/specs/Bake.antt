@@ -36,3 +36,12 @@ expires now o r = eqb (r .last) now && not (is-baked o r)
 -- the jobs that stay for the next slot
 unfoldable pub stays : ℕ → Option Job → Job → Bool
 stays now o r = ltb now (r .last) && not (is-baked o r)
+
+-- ''Empty' is the answer only for a board with no racks; its ticket and grade are 0'
+unfoldable pub ticket-of : Option Job → ℕ
+ticket-of none = 0
+ticket-of (some r) = r .ticket
+
+unfoldable pub grade-of : Option Job → ℕ
+grade-of none = 0
+grade-of (some r) = r .grade
