@@ -1,0 +1,76 @@
+-- Whether the definitions give the answers of a case.
+use mathlib.Core.Path.{_≡_, refl}
+use mathlib.Core.Bool.{Bool, true, false, Bool·beq, _&&_, cond}
+use mathlib.Core.List.{List, [], _∷_, _++_, map}
+use Prim.Native.Nat.{ℕ, zero, suc, _-_}
+use lib.Dec.{eqb}
+use lib.ListN.{length, replicate}
+use Rattle.rule.specs.Job.{Job}
+use Rattle.books.specs.Book.{closed}
+use Rattle.books.specs.Schedule.{total}
+use Rattle.board.specs.declared.Place.{Place}
+use Rattle.board.specs.declared.Board.{Board}
+use Rattle.board.specs.Limits.{places-held}
+use Rattle.board.specs.Held.{slot-number, blank}
+use Rattle.board.specs.Sound.{sound}
+use Rattle.board.specs.Open.{empty-board}
+use Rattle.board.specs.Admit.{admitted}
+use Rattle.board.specs.Close as Close
+use Rattle.claims.specs.Calls.{Call, admit, close, board-after}
+use Rattle.claims.specs.OurPlan.{our-plan}
+use Rattle.claims.specs.Demand3.{book-of}
+use Rattle.lines.specs.Session.{output}
+
+-- equal lists of numbers, and lists of these
+unfoldable pub same : List ℕ → List ℕ → Bool
+same [] [] = true
+same [] (n ∷ k) = false
+same (m ∷ l) [] = false
+same (m ∷ l) (n ∷ k) = eqb m n && same l k
+
+unfoldable pub same-all : List (List ℕ) → List (List ℕ) → Bool
+same-all [] [] = true
+same-all [] (n ∷ k) = false
+same-all (m ∷ l) [] = false
+same-all (m ∷ l) (n ∷ k) = same m n && same-all l k
+
+-- a place and a board by their numbers; places that are not given are blank
+unfoldable pub place : (ticket admitted last grade : ℕ) → Place
+place t a l g = record { ticket = t; admitted = slot-number a; last = slot-number l; grade = g }
+
+unfoldable pub board : (depth slot highest count : ℕ) → List Place → Board
+board d k h c xs =
+    record { depth = d; slot = slot-number k; highest = h; count = c; places = xs ++ replicate (places-held - length xs) blank }
+
+unfoldable pub sound-right : Board → Bool → Bool
+sound-right b s = Bool·beq (sound b) s
+
+-- an answer as its numbers, the refusal first
+unfoldable pub answer : Board → Call → List ℕ
+answer b (admit t w g) = let r = admitted b t w g in r .refusal ∷ r .last .0 ∷ []
+answer b (close lent) = let r = Close.closed b lent in r .refusal ∷ r .ticket ∷ r .grade ∷ r .expired ∷ []
+
+-- a closing's answer, and the jobs given up in the board's order
+unfoldable pub close-right : Board → List ℕ → List (List ℕ) → Bool
+close-right b a gone =
+    same (answer b (close places-held)) a
+    && same-all (map (λ (r : Job). r .ticket ∷ r .admitted ∷ r .grade ∷ []) (Close.given-up b)) gone
+
+unfoldable pub answers : Board → List Call → List (List ℕ)
+answers b [] = []
+answers b (c ∷ cs) = answer b c ∷ answers (board-after b c) cs
+
+-- what our plan bakes in the first k slots, from k on
+unfoldable pub totals : Board → List Call → ℕ → List ℕ → List ℕ
+totals b cs k [] = []
+totals b cs k (n ∷ ns) = total (book-of b cs) (our-plan b cs) k ∷ totals b cs (suc k) ns
+
+-- a list of calls on an empty board: the answers, and the most that any plan bakes in the first 0, 1, .. slots, up to the slots closed
+unfoldable pub book-right : (depth slot highest : ℕ) → List Call → List (List ℕ) → List ℕ → Bool
+book-right d k h cs told most =
+    let b = empty-board d k h in
+    same-all (answers b cs) told && eqb (suc (closed (book-of b cs))) (length most) && same (totals b cs 0 most) most
+
+-- a day's input and output
+unfoldable pub day-right : List ℕ → List ℕ → Bool
+day-right input printed = same (output input) printed

@@ -1,0 +1,112 @@
+//! Prints small boards and small books with the model's answers.
+//!
+//! `cases COUNT SEED` prints COUNT lines of each of two forms, all numbers in
+//! decimal, one space between words.
+//!
+//! `board DEPTH SLOT HIGHEST ; JOB ; JOB ... => TICKET GRADE ; EXPIRED ; ...`
+//! is a sound board and its closing with a list that is long enough. Before the
+//! arrow are the board's depth, slot and highest ticket, then its racks in board
+//! order, JOB being `TICKET ADMITTED LAST GRADE`. After it are ticket and grade
+//! of the rack baked, 0 0 for an empty board, then the racks given up in board
+//! order, EXPIRED being `TICKET ADMITTED GRADE`.
+//!
+//! `book DEPTH SLOT HIGHEST ; CALL ; CALL ... => ANSWER ; ANSWER ... | K0 K1 ...`
+//! is a list of calls on an empty board. CALL is `A TICKET WAIT GRADE` or
+//! `B LENTLENGTH`. There is one ANSWER a call: `A LASTSLOT`, `R NUMBER` for a
+//! refusal, or `B TICKET GRADE GIVENUP` with the number given up. K0, K1, ... is
+//! the most that any plan of the day book bakes in the first 0, 1, ... slots, up
+//! to the slots closed.
+
+use std::env;
+use std::io::{self, BufWriter, Write};
+use std::process;
+
+use model::board::Board;
+use model::book::Book;
+use model::calls;
+use model::draw::Draw;
+use model::limits::{DEEPEST, MOST_HELD};
+use model::list::{self, Answer, Call};
+use model::plans;
+use model::samples::{self, Crowd};
+
+/// Most racks of a case's board.
+const MOST_RACKS: u32 = 7;
+/// Most calls of a case's book.
+const MOST_CALLS: u32 = 24;
+
+fn main() -> io::Result<()> {
+    let words: Vec<String> = env::args().skip(1).collect();
+    let numbers: Vec<u64> = words.iter().filter_map(|word| word.parse().ok()).collect();
+    if words.len() != 2 || numbers.len() != 2 {
+        eprintln!("use: cases COUNT SEED");
+        process::exit(2);
+    }
+    let mut draw = Draw::new(numbers[1]);
+    let mut output = BufWriter::new(io::stdout().lock());
+    for _ in 0..numbers[0] {
+        writeln!(output, "{}", board_case(&mut draw))?;
+    }
+    for _ in 0..numbers[0] {
+        writeln!(output, "{}", book_case(&mut draw))?;
+    }
+    output.flush()
+}
+
+fn board_case(draw: &mut Draw) -> String {
+    let mut board = samples::board(draw, MOST_RACKS);
+    let (depth, slot, highest) = (board.depth, board.slot, board.highest_ticket);
+    let mut asked = vec![format!("board {depth} {slot} {highest}")];
+    for job in board.jobs() {
+        let (ticket, admitted) = (job.ticket, job.admitted);
+        asked.push(format!(
+            "{ticket} {admitted} {} {}",
+            job.deadline, job.grade
+        ));
+    }
+    let closed = calls::close(&mut board, MOST_HELD).expect("the board is sound");
+    let mut answered = vec![format!("{} {}", closed.ticket, closed.grade)];
+    for job in &closed.expired {
+        answered.push(format!("{} {} {}", job.ticket, job.admitted, job.grade));
+    }
+    format!("{} => {}", asked.join(" ; "), answered.join(" ; "))
+}
+
+fn book_case(draw: &mut Draw) -> String {
+    let depth = draw.between(0, DEEPEST);
+    let slot = samples::first_slot(draw);
+    let highest = samples::highest_ticket(draw);
+    let crowd = Crowd::drawn(draw, MOST_CALLS);
+    let calls = samples::calls(draw, depth, highest, crowd);
+    let answers = list::play(&mut Board::holding(depth, slot, highest, &[]), &calls);
+    let book = Book::drawn(depth, slot, highest, &calls);
+    let mut asked = vec![format!("book {depth} {slot} {highest}")];
+    asked.extend(calls.iter().map(call_words));
+    let answered: Vec<String> = answers.iter().map(answer_words).collect();
+    let most = plans::most_by_slot(&book);
+    let most: Vec<String> = most.iter().map(|number| number.to_string()).collect();
+    let (asked, answered, most) = (asked.join(" ; "), answered.join(" ; "), most.join(" "));
+    format!("{asked} => {answered} | {most}")
+}
+
+fn call_words(call: &Call) -> String {
+    match call {
+        Call::Admit {
+            ticket,
+            laxity,
+            grade,
+        } => format!("A {ticket} {laxity} {grade}"),
+        Call::Close { lent } => format!("B {lent}"),
+    }
+}
+
+fn answer_words(answer: &Answer) -> String {
+    match answer {
+        Answer::Admitted(deadline) => format!("A {deadline}"),
+        Answer::Closed(closed) => {
+            let given_up = closed.expired.len();
+            format!("B {} {} {given_up}", closed.ticket, closed.grade)
+        }
+        Answer::Refused(refusal) => format!("R {}", refusal.number()),
+    }
+}

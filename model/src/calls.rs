@@ -1,0 +1,108 @@
+//! Admitting and closing.
+//!
+//! A board is written only after every check has passed, so a refused call
+//! leaves it as it came, an unsound one included.
+
+use crate::board::{Board, Job};
+use crate::refusal::Refusal;
+use crate::rows::{self, Standing};
+use crate::rule;
+use crate::soundness::is_sound;
+
+/// An entry of the given-up list.
+#[derive(Clone, Copy, Debug, PartialEq, Eq)]
+pub struct Expired {
+    pub ticket: u32,
+    pub grade: u32,
+    pub admitted: u32,
+}
+
+/// The answer of a closing. Ticket and grade are 0 for an empty board.
+#[derive(Clone, Debug, PartialEq, Eq)]
+pub struct Closed {
+    pub ticket: u32,
+    pub grade: u32,
+    /// The racks given up. The paper leaves their order open; here it is the board's.
+    pub expired: Vec<Expired>,
+}
+
+/// What the rows read on a board.
+fn standing(board: &Board) -> Standing {
+    let mut admitted_now = 0;
+    for job in board.jobs() {
+        if job.admitted == board.slot {
+            admitted_now += 1;
+        }
+    }
+    Standing {
+        depth: board.depth,
+        slot: board.slot,
+        highest_ticket: board.highest_ticket,
+        admitted_now,
+    }
+}
+
+/// Row 2.
+fn check_sound(board: &Board) -> Result<(), Refusal> {
+    if is_sound(board) {
+        Ok(())
+    } else {
+        Err(Refusal::Unsound)
+    }
+}
+
+/// Admits a rack with a wait; the answer is its last slot.
+pub fn admit(board: &mut Board, ticket: u32, laxity: u32, grade: u32) -> Result<u32, Refusal> {
+    check_sound(board)?;
+    rows::admitting(standing(board), ticket, laxity, grade)?;
+    let deadline = board.slot + laxity - 1;
+    let mut jobs = board.jobs().to_vec();
+    jobs.push(Job {
+        ticket,
+        admitted: board.slot,
+        deadline,
+        grade,
+    });
+    board.put(&jobs);
+    board.highest_ticket = ticket;
+    Ok(deadline)
+}
+
+/// Closes the slot by the no-regret rule. `lent` is the length of the lent list.
+pub fn close(board: &mut Board, lent: usize) -> Result<Closed, Refusal> {
+    close_with(board, lent, rule::job_to_bake)
+}
+
+/// Closes the slot with the rack that `pick` names from racks, slot and depth.
+pub fn close_with<P>(board: &mut Board, lent: usize, mut pick: P) -> Result<Closed, Refusal>
+where
+    P: FnMut(&[Job], u32, u32) -> Option<Job>,
+{
+    check_sound(board)?;
+    rows::closing(standing(board), lent)?;
+    let baked = pick(board.jobs(), board.slot, board.depth);
+    let mut expired = Vec::new();
+    let mut kept = Vec::new();
+    for job in board.jobs() {
+        if Some(*job) == baked {
+            continue;
+        }
+        if job.deadline == board.slot {
+            expired.push(Expired {
+                ticket: job.ticket,
+                grade: job.grade,
+                admitted: job.admitted,
+            });
+        } else {
+            kept.push(*job);
+        }
+    }
+    board.put(&kept);
+    board.slot += 1;
+    let baked = baked.unwrap_or_default();
+    Ok(Closed {
+        ticket: baked.ticket,
+        grade: baked.grade,
+        expired,
+    })
+}

@@ -1,0 +1,104 @@
+//! Days in which nearly every line is taken.
+
+use super::writer::Writer;
+use crate::draw::Draw;
+use crate::limits::{DEEPEST, LAST_SLOT, LONGEST_LAXITY, MOST_PER_SLOT};
+
+/// About as many racks as slots.
+pub fn ordinary(draw: &mut Draw, slots: u32) -> Vec<u8> {
+    let mut writer = opened(draw);
+    let longest = draw.pick(&[4, 12, LONGEST_LAXITY]);
+    for _ in 0..slots {
+        for _ in 0..draw.pick(&[0, 0, 0, 1, 1, 1, 2, 4]) {
+            let (laxity, grade) = (draw.between(1, longest), writer.grade(draw));
+            writer.admit(draw, laxity, grade);
+        }
+        writer.close();
+    }
+    writer.bytes
+}
+
+/// More racks than the oven can bake; now and then more than a slot admits.
+pub fn overfull(draw: &mut Draw, slots: u32) -> Vec<u8> {
+    let mut writer = opened(draw);
+    let longest = draw.pick(&[1, 3, 8, LONGEST_LAXITY, LONGEST_LAXITY]);
+    for _ in 0..slots {
+        for _ in 0..draw.between(3, MOST_PER_SLOT as u32 + 2) {
+            let (laxity, grade) = (draw.between(1, longest), writer.grade(draw));
+            writer.admit(draw, laxity, grade);
+        }
+        writer.close();
+    }
+    writer.bytes
+}
+
+/// Two waits and two grades only.
+pub fn ties(draw: &mut Draw, slots: u32) -> Vec<u8> {
+    let mut writer = opened(draw);
+    let laxities = [draw.between(1, 4), draw.between(1, 12)];
+    let grades = [writer.grade(draw), writer.grade(draw)];
+    for _ in 0..slots {
+        for _ in 0..draw.pick(&[0, 0, 1, 2, 3, 8]) {
+            let (laxity, grade) = (draw.pick(&laxities), draw.pick(&grades));
+            writer.admit(draw, laxity, grade);
+        }
+        writer.close();
+    }
+    writer.bytes
+}
+
+/// Tickets that come to the greatest, stay there, and try to pass it.
+pub fn tickets(draw: &mut Draw, slots: u32) -> Vec<u8> {
+    let mut writer = opened(draw);
+    let mut ticket = u64::from(u32::MAX) - u64::from(draw.between(0, slots));
+    for _ in 0..slots {
+        for _ in 0..draw.between(0, 3) {
+            let (laxity, grade) = (draw.between(1, 6), writer.grade(draw));
+            writer.line(format!("A,{ticket},{laxity},{grade}").as_bytes());
+            ticket += draw.pick(&[0, 1, 1, 1, 2]);
+        }
+        writer.close();
+    }
+    writer.bytes
+}
+
+/// Eight racks in every slot at depth 3, tickets one apart.
+pub fn long(draw: &mut Draw, slots: u32) -> Vec<u8> {
+    let mut writer = Writer::new();
+    writer.open(DEEPEST);
+    let mut ticket: u32 = 0;
+    for _ in 0..slots {
+        for _ in 0..MOST_PER_SLOT {
+            ticket += 1;
+            let (laxity, grade) = (draw.between(1, LONGEST_LAXITY), writer.grade(draw));
+            writer.line(format!("A,{ticket},{laxity},{grade}").as_bytes());
+        }
+        writer.close();
+    }
+    writer.bytes
+}
+
+/// Closings up to the last slots, racks there, and then calls past the end.
+pub fn end(draw: &mut Draw, slots: u32) -> Vec<u8> {
+    let mut writer = opened(draw);
+    let slots = slots.min(LAST_SLOT);
+    for _ in slots..LAST_SLOT {
+        writer.close();
+    }
+    for _ in 0..slots + 3 {
+        for _ in 0..draw.between(0, 3) {
+            let laxity = draw.between(1, LONGEST_LAXITY + 1);
+            let grade = writer.grade(draw);
+            writer.admit(draw, laxity, grade);
+        }
+        writer.close();
+    }
+    writer.bytes
+}
+
+/// A writer that has opened a board of some depth.
+fn opened(draw: &mut Draw) -> Writer {
+    let mut writer = Writer::new();
+    writer.open(draw.between(0, DEEPEST));
+    writer
+}

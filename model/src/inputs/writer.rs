@@ -1,0 +1,65 @@
+//! Writes lines that the program takes.
+
+use crate::draw::Draw;
+
+/// The bytes so far and what the next good line needs to know.
+pub struct Writer {
+    pub bytes: Vec<u8>,
+    pub depth: u32,
+    /// The highest ticket written so far.
+    pub highest: u32,
+}
+
+impl Writer {
+    pub fn new() -> Writer {
+        Writer {
+            bytes: Vec::new(),
+            depth: 0,
+            highest: 0,
+        }
+    }
+
+    /// Adds a line of any bytes.
+    pub fn line(&mut self, line: &[u8]) {
+        self.bytes.extend_from_slice(line);
+        self.bytes.push(b'\n');
+    }
+
+    /// Opens a board of this depth.
+    pub fn open(&mut self, depth: u32) {
+        self.depth = depth;
+        self.line(format!("D,{depth}").as_bytes());
+    }
+
+    /// Admits a rack under the next ticket, now and then written in other ways.
+    pub fn admit(&mut self, draw: &mut Draw, laxity: u32, grade: u32) {
+        self.highest += draw.pick(&[1, 1, 1, 1, 5]);
+        let ticket = zeros(draw, self.highest);
+        let laxity = zeros(draw, laxity);
+        let blank = grade == 0 && draw.one_in(4);
+        let grade = if blank {
+            String::new()
+        } else {
+            zeros(draw, grade)
+        };
+        self.line(format!("A,{ticket},{laxity},{grade}").as_bytes());
+    }
+
+    /// A grade of the open depth.
+    pub fn grade(&self, draw: &mut Draw) -> u32 {
+        draw.between(0, (1 << self.depth) - 1)
+    }
+
+    pub fn close(&mut self) {
+        self.line(b"B");
+    }
+}
+
+/// A number, now and then with leading zeros, in at most ten digits.
+pub fn zeros(draw: &mut Draw, number: u32) -> String {
+    if !draw.one_in(10) {
+        return number.to_string();
+    }
+    let width = draw.between(1, 10) as usize;
+    format!("{number:0width$}")
+}

@@ -1,0 +1,48 @@
+//! Rows 3 to 8: the checks on a call's arguments.
+//!
+//! A board and a day book both put them, each with its own figures.
+
+use crate::board::is_grade;
+use crate::limits::{LAST_SLOT, LONGEST_LAXITY, MOST_HELD, MOST_PER_SLOT};
+use crate::refusal::Refusal;
+
+/// The figures that the rows read.
+#[derive(Clone, Copy, Debug)]
+pub struct Standing {
+    pub depth: u32,
+    pub slot: u32,
+    pub highest_ticket: u32,
+    /// How many racks were admitted in this slot.
+    pub admitted_now: usize,
+}
+
+/// Rows 3 to 7, in order; the first that fails is the one given.
+pub fn admitting(at: Standing, ticket: u32, laxity: u32, grade: u32) -> Result<(), Refusal> {
+    if at.slot == LAST_SLOT + 1 {
+        return Err(Refusal::BookEnded);
+    }
+    if ticket <= at.highest_ticket {
+        return Err(Refusal::Ticket);
+    }
+    if !(1..=LONGEST_LAXITY).contains(&laxity) {
+        return Err(Refusal::Laxity);
+    }
+    if !is_grade(grade, at.depth) {
+        return Err(Refusal::Grade);
+    }
+    if at.admitted_now >= MOST_PER_SLOT {
+        return Err(Refusal::SlotFull);
+    }
+    Ok(())
+}
+
+/// Rows 3 and 8, in order. `lent` is the length of the lent list.
+pub fn closing(at: Standing, lent: usize) -> Result<(), Refusal> {
+    if at.slot == LAST_SLOT + 1 {
+        return Err(Refusal::BookEnded);
+    }
+    if lent < MOST_HELD {
+        return Err(Refusal::ListShort);
+    }
+    Ok(())
+}

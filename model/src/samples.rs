@@ -1,0 +1,187 @@
+//! Small random sound boards and small random lists of calls.
+
+use crate::board::{Board, Job};
+use crate::draw::Draw;
+use crate::limits::{DEEPEST, LAST_SLOT, LONGEST_LAXITY, MOST_HELD, MOST_PER_SLOT};
+use crate::list::Call;
+
+/// A slot in which a call can pass row 3: often near either end of a book.
+pub fn slot(draw: &mut Draw) -> u32 {
+    match draw.between(0, 3) {
+        0 => draw.between(1, 4),
+        1 => draw.between(1, 40),
+        2 => draw.between(LAST_SLOT - 4, LAST_SLOT),
+        _ => draw.between(1, LAST_SLOT),
+    }
+}
+
+/// A slot for an empty board: any that is sound, the one past the book's end too.
+pub fn first_slot(draw: &mut Draw) -> u32 {
+    if draw.one_in(30) {
+        return LAST_SLOT + 1;
+    }
+    slot(draw)
+}
+
+/// A highest ticket: small, anything, or near the greatest number.
+pub fn highest_ticket(draw: &mut Draw) -> u32 {
+    match draw.between(0, 3) {
+        0 => 0,
+        1 => draw.between(0, 50),
+        2 => draw.between(0, u32::MAX),
+        _ => draw.between(u32::MAX - 40, u32::MAX),
+    }
+}
+
+/// A sound board with up to `most` racks, in a slot before the book's end.
+pub fn board(draw: &mut Draw, most: u32) -> Board {
+    let depth = draw.between(0, DEEPEST);
+    let slot = slot(draw);
+    let many = draw.between(0, most) as usize;
+    let jobs = jobs(draw, depth, slot, many);
+    let last_ticket = jobs.last().map_or(0, |job| job.ticket);
+    let room = u32::MAX - last_ticket;
+    let highest = match draw.between(0, 2) {
+        0 => last_ticket,
+        1 => last_ticket + draw.between(0, room.min(9)),
+        _ => last_ticket + draw.between(0, room),
+    };
+    Board::holding(depth, slot, highest, &jobs)
+}
+
+/// Racks that make a sound board in this slot, as many as asked for. In an early
+/// slot fewer fit, as a slot admits only eight.
+pub fn jobs(draw: &mut Draw, depth: u32, slot: u32, many: usize) -> Vec<Job> {
+    let oldest = slot.saturating_sub(LONGEST_LAXITY - 1).max(1);
+    let farthest = draw.pick(&[0, 1, 2, 3, 5, 8, LONGEST_LAXITY]);
+    let mut ticket = first_ticket(draw);
+    let mut jobs = Vec::new();
+    for admitted in admitted_slots(draw, oldest, slot, many) {
+        let latest = (admitted + LONGEST_LAXITY - 1).min(slot + farthest);
+        jobs.push(Job {
+            ticket,
+            admitted,
+            deadline: draw.between(slot, latest),
+            grade: draw.between(0, (1 << depth) - 1),
+        });
+        ticket += draw.pick(&[1, 1, 1, 2, 100]);
+    }
+    jobs
+}
+
+/// A first ticket that leaves room for a full board above it.
+fn first_ticket(draw: &mut Draw) -> u32 {
+    let room = 100 * MOST_HELD as u32;
+    match draw.between(0, 2) {
+        0 => 1,
+        1 => draw.between(1, 50),
+        _ => draw.between(1, u32::MAX - room),
+    }
+}
+
+/// Admitted slots in order, none of them more than eight times.
+fn admitted_slots(draw: &mut Draw, oldest: u32, newest: u32, many: usize) -> Vec<u32> {
+    let mut slots: Vec<u32> = Vec::new();
+    for _ in 0..many {
+        let slot = draw.between(oldest, newest);
+        let taken = slots.iter().filter(|&&other| other == slot).count();
+        if taken < MOST_PER_SLOT {
+            slots.push(slot);
+        }
+    }
+    slots.sort_unstable();
+    slots
+}
+
+/// The full board of this slot: eight racks from each of the last 32 slots.
+/// The slot must be 32 or later.
+pub fn full_board(draw: &mut Draw, slot: u32) -> Board {
+    let depth = draw.between(0, DEEPEST);
+    let mut jobs = Vec::new();
+    for admitted in slot + 1 - LONGEST_LAXITY..=slot {
+        for _ in 0..MOST_PER_SLOT {
+            jobs.push(Job {
+                ticket: jobs.len() as u32 + 1,
+                admitted,
+                deadline: draw.between(slot, admitted + LONGEST_LAXITY - 1),
+                grade: draw.between(0, (1 << depth) - 1),
+            });
+        }
+    }
+    Board::holding(depth, slot, jobs.len() as u32, &jobs)
+}
+
+/// How crowded a list of calls is, and which of its calls are refused.
+#[derive(Clone, Copy, Debug)]
+pub struct Crowd {
+    /// Number of calls.
+    pub calls: u32,
+    /// About one call in so many is a closing.
+    pub closing: u32,
+    /// Waits asked for are mostly 1 to this.
+    pub longest: u32,
+    /// About one argument in so many is out of range.
+    pub wrong: u32,
+}
+
+impl Crowd {
+    /// A random small crowd with at most this many calls.
+    pub fn drawn(draw: &mut Draw, most_calls: u32) -> Crowd {
+        Crowd {
+            calls: draw.between(1, most_calls),
+            closing: draw.pick(&[2, 2, 3, 4, 9]),
+            longest: draw.pick(&[1, 2, 3, 4, 6, LONGEST_LAXITY]),
+            wrong: draw.pick(&[5, 20, 100]),
+        }
+    }
+}
+
+/// A list of calls for an empty board with this depth and highest ticket.
+pub fn calls(draw: &mut Draw, depth: u32, highest: u32, crowd: Crowd) -> Vec<Call> {
+    let mut highest = highest;
+    let mut calls = Vec::new();
+    for _ in 0..crowd.calls {
+        if draw.one_in(crowd.closing) {
+            let lent = closing_list(draw, crowd.wrong);
+            calls.push(Call::Close { lent });
+        } else {
+            let ticket = ticket(draw, highest, crowd.wrong);
+            calls.push(Call::Admit {
+                ticket,
+                laxity: laxity(draw, crowd),
+                grade: grade(draw, depth, crowd.wrong),
+            });
+            highest = highest.max(ticket);
+        }
+    }
+    calls
+}
+
+fn closing_list(draw: &mut Draw, wrong: u32) -> usize {
+    if draw.one_in(wrong) {
+        return draw.pick(&[0, 1, MOST_HELD - 1]);
+    }
+    draw.pick(&[MOST_HELD, MOST_HELD, MOST_HELD + 1, 10 * MOST_HELD])
+}
+
+fn ticket(draw: &mut Draw, highest: u32, wrong: u32) -> u32 {
+    if draw.one_in(wrong) {
+        return draw.pick(&[0, highest, highest.saturating_sub(1)]);
+    }
+    highest.saturating_add(draw.pick(&[1, 1, 2, 7]))
+}
+
+fn laxity(draw: &mut Draw, crowd: Crowd) -> u32 {
+    if draw.one_in(crowd.wrong) {
+        return draw.pick(&[0, LONGEST_LAXITY, LONGEST_LAXITY + 1, u32::MAX]);
+    }
+    draw.between(1, crowd.longest)
+}
+
+fn grade(draw: &mut Draw, depth: u32, wrong: u32) -> u32 {
+    let grades = 1 << depth;
+    if draw.one_in(wrong) {
+        return draw.pick(&[grades, grades + 1, u32::MAX]);
+    }
+    draw.between(0, grades - 1)
+}

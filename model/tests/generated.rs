@@ -1,0 +1,95 @@
+//! The generated inputs: fixed, answered line by line, and covering the refusals.
+
+use std::collections::BTreeSet;
+
+use model::inputs::{self, Kind};
+use model::program::run_bytes;
+
+fn kind(name: &str) -> Kind {
+    inputs::find(name).expect("a kind")
+}
+
+/// Number of lines: ends of line, and one more where bytes follow the last.
+fn lines(input: &[u8]) -> usize {
+    let ends = input.iter().filter(|&&byte| byte == b'\n').count();
+    let more = !input.is_empty() && !input.ends_with(b"\n");
+    ends + usize::from(more)
+}
+
+/// The printed lines that answer a line of the input.
+fn answered(output: &str) -> usize {
+    let more = |line: &&str| !line.starts_with('G') && !line.starts_with('T');
+    output.lines().filter(more).count()
+}
+
+/// The numbers of the refusals in an output.
+fn refusals(output: &str) -> BTreeSet<u32> {
+    let refused = output.lines().filter(|line| line.starts_with("R,"));
+    let last = refused.filter_map(|line| line.rsplit(',').next());
+    last.filter_map(|number| number.parse().ok()).collect()
+}
+
+fn text(input: &[u8]) -> String {
+    String::from_utf8(run_bytes(input)).expect("text")
+}
+
+#[test]
+fn every_line_is_answered_once() {
+    for kind in inputs::KINDS {
+        if kind.name == "end" {
+            continue;
+        }
+        for seed in 0..60 {
+            let input = kind.input(seed, None);
+            let output = text(&input);
+            assert_eq!(answered(&output), lines(&input), "{} {seed}", kind.name);
+        }
+    }
+}
+
+#[test]
+fn the_same_seed_gives_the_same_bytes() {
+    for kind in inputs::KINDS {
+        let size = Some(20);
+        assert_eq!(kind.input(3, size), kind.input(3, size));
+        if kind.name != "tiny" {
+            assert_ne!(kind.input(3, size), kind.input(4, size));
+        }
+    }
+}
+
+#[test]
+fn refusals_are_all_there() {
+    for seed in 0..50 {
+        let seen = refusals(&text(&kind("refusals").input(seed, None)));
+        let wanted = BTreeSet::from([1, 4, 5, 6, 7, 11, 12, 13, 14, 15]);
+        assert_eq!(seen, wanted, "{seed}");
+    }
+}
+
+#[test]
+fn the_books_end_is_refused() {
+    let output = text(&kind("end").input(1, None));
+    assert!(refusals(&output).contains(&3));
+    assert!(output.contains("\nB,1000000,"));
+    assert!(!output.contains("\nB,1000001,"));
+}
+
+#[test]
+fn good_days_are_hardly_refused() {
+    for name in ["ordinary", "ties", "long"] {
+        for seed in 0..20 {
+            let seen = refusals(&text(&kind(name).input(seed, None)));
+            assert_eq!(seen, BTreeSet::new(), "{name} {seed}");
+        }
+    }
+}
+
+#[test]
+fn tickets_come_to_the_greatest_and_are_refused_there() {
+    let mut seen = BTreeSet::new();
+    for seed in 0..20 {
+        seen.extend(refusals(&text(&kind("tickets").input(seed, None))));
+    }
+    assert_eq!(seen, BTreeSet::from([4, 14]));
+}

@@ -1,0 +1,86 @@
+//! The lines of the model's programs `cases` and `sound`, as terms.
+
+use crate::antt::list;
+
+/// The term of a line.
+pub fn case(line: &str) -> String {
+    match line.split_whitespace().next() {
+        Some("board") => closing(&line[5..]),
+        Some("book") => calls(&line[4..]),
+        _ => soundness(line),
+    }
+}
+
+/// The numbers of a piece.
+fn numbers(piece: &str) -> Vec<u64> {
+    let words = piece.split_whitespace();
+    words.map(|word| word.parse().expect("a number")).collect()
+}
+
+/// A piece as arguments.
+fn arguments(piece: &str) -> String {
+    piece.split_whitespace().collect::<Vec<_>>().join(" ")
+}
+
+fn places(pieces: &[&str]) -> String {
+    let places: Vec<String> = pieces.iter().map(|piece| format!("place {}", arguments(piece))).collect();
+    list(&places)
+}
+
+/// `SOUND DEPTH SLOT HIGHEST COUNT ; PLACE ; ...`
+fn soundness(line: &str) -> String {
+    let pieces: Vec<&str> = line.split(';').collect();
+    let head = numbers(pieces[0]);
+    let sound = head[0] == 1;
+    format!(
+        "sound-right (board {} {} {} {} {}) {sound}",
+        head[1], head[2], head[3], head[4], places(&pieces[1..])
+    )
+}
+
+/// `DEPTH SLOT HIGHEST ; JOB ; ... => TICKET GRADE ; EXPIRED ; ...`
+fn closing(line: &str) -> String {
+    let (asked, told) = line.split_once("=>").expect("an arrow");
+    let asked: Vec<&str> = asked.split(';').collect();
+    let told: Vec<&str> = told.split(';').collect();
+    let baked = numbers(told[0]);
+    let gone: Vec<String> = told[1..].iter().map(|piece| list(&numbers(piece))).collect();
+    let answer = [0, baked[0], baked[1], gone.len() as u64];
+    format!(
+        "close-right (board {} {} {}) {} {}",
+        arguments(asked[0]), asked.len() - 1, places(&asked[1..]), list(&answer), list(&gone)
+    )
+}
+
+/// `DEPTH SLOT HIGHEST ; CALL ; ... => ANSWER ; ... | K0 K1 ...`
+fn calls(line: &str) -> String {
+    let (asked, told) = line.split_once("=>").expect("an arrow");
+    let (told, most) = told.split_once('|').expect("a bar");
+    let asked: Vec<&str> = asked.split(';').collect();
+    let calls: Vec<String> = asked[1..].iter().map(|piece| call(piece)).collect();
+    let told: Vec<&str> = told.split(';').filter(|piece| !piece.trim().is_empty()).collect();
+    let answers: Vec<String> = asked[1..].iter().zip(told).map(|(call, told)| answer(call, told)).collect();
+    assert_eq!(calls.len(), answers.len(), "an answer a call");
+    format!("book-right {} {} {} {}", arguments(asked[0]), list(&calls), list(&answers), list(&numbers(most)))
+}
+
+fn call(piece: &str) -> String {
+    let piece = piece.trim();
+    match piece.split_at(1) {
+        ("A", rest) => format!("admit {}", arguments(rest)),
+        ("B", rest) => format!("close {}", arguments(rest)),
+        _ => panic!("no call: {piece}"),
+    }
+}
+
+/// An answer as its numbers, the refusal first and, where it is one, 0 for the rest.
+fn answer(call: &str, told: &str) -> String {
+    let admits = call.trim().starts_with('A');
+    let told = told.trim();
+    let mut answer = numbers(&told[1..]);
+    if !told.starts_with('R') {
+        answer.insert(0, 0);
+    }
+    answer.resize(if admits { 2 } else { 4 }, 0);
+    list(&answer)
+}
