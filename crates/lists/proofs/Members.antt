@@ -25,7 +25,7 @@ module _ {A : Type 0} (p : A → Bool) where
       go : (p a ≡ true) ⊎ (p a ≡ false) → (List·Memᴰ x (select p l) → List·Memᴰ x l × (p x ≡ true)) → List·Memᴰ x (a ∷ l) × (p x ≡ true)
       go (inl h) f =
           elim (List·Memᴰ·cases-cons (subst (List·Memᴰ x) (select-yes a l h) m)) [
-            inl e ↦ (List·Memᴰ·head e, ap p e ∙ h)
+            | inl e ↦ (List·Memᴰ·head e, ap p e ∙ h)
             | inr k ↦ (List·Memᴰ·tail (f k .0), f k .1)
           ]
       go (inr h) f = let r = f (subst (List·Memᴰ x) (select-no a l h) m) in (List·Memᴰ·tail (r .0), r .1)
