@@ -1,4 +1,4 @@
-//! The paper's sample session, byte for byte.
+//! The paper's sample input and its output, byte for byte.
 
 use model::program::run_bytes;
 
@@ -17,11 +17,11 @@ T,1,2,1,1
 ";
 
 #[test]
-fn sample_session() {
+fn sample_whole() {
     assert_eq!(run_bytes(INPUT), OUTPUT);
 }
 
 #[test]
-fn sample_session_without_its_last_line_end() {
+fn sample_without_its_last_line_end() {
     assert_eq!(run_bytes(&INPUT[..INPUT.len() - 1]), OUTPUT);
 }

@@ -1,0 +1,35 @@
+-- The jobs on the board that admitting or closing hands back.
+use mathlib.Core.Path.{_≡_, ap, _∙_}
+use mathlib.Core.List.{[], _∷_, _++_, map, map-append}
+use Prim.Native.Nat.{ℕ, _-_, _<_}
+use native.Mathlib.Numerals.{add-one}
+use lib.ListN.{length, replicate}
+use lib.Seq.{take-suc-set, take-append-seam}
+use Rattle.lists.specs.Select.{select}
+use Rattle.rule.specs.Job.{job}
+use Rattle.rule.specs.Bake.{stays}
+use Rattle.board.specs.declared.Place.{Place}
+use Rattle.board.specs.declared.Board.{Board}
+use Rattle.board.specs.Limits.{places-held}
+use Rattle.board.specs.Held.{slot-number, job-in, blank, used, held}
+use Rattle.board.specs.Admit.{last-of, with-job}
+use Rattle.board.specs.Close.{bakes, kept, moved-on}
+use Rattle.board.proofs.Lists.Parts.{select-map}
+
+-- the place of a new job
+abbrev pub new-place : Board → (ticket laxity grade : ℕ) → Place
+new-place b t w g = record { ticket = t; admitted = b .slot; last = slot-number (last-of b w); grade = g }
+
+pub used-with-job : (b : Board) (t w g : ℕ) → b .count < length (b .places) → used (with-job b t w g) ≡ used b ++ (new-place b t w g ∷ [])
+unfolding used with-job
+used-with-job b t w g h = rw add-one (take-suc-set (b .places) (b .count) (new-place b t w g) h)
+
+pub held-with-job : (b : Board) (t w g : ℕ) → b .count < length (b .places) → held (with-job b t w g) ≡ held b ++ (job t (b .slot .0) w g ∷ [])
+unfolding held job-in job last-of
+held-with-job b t w g h = ap (map job-in) (used-with-job b t w g h) ∙ map-append job-in (used b) (new-place b t w g ∷ [])
+
+pub held-moved-on : (b : Board) → held (moved-on b) ≡ select (stays (b .slot .0) (bakes b)) (held b)
+unfolding held used moved-on kept
+held-moved-on b =
+    ap (map job-in) (take-append-seam (kept b) (replicate (places-held - length (kept b)) blank))
+    ∙ select-map job-in (stays (b .slot .0) (bakes b)) (used b)

@@ -1,0 +1,68 @@
+-- Admitting and closing keep a board sound, and a refused call hands back the board itself.
+use mathlib.Core.Path.{_≡_, refl, sym, ap, _∙_}
+use mathlib.Core.Bool.{true, not}
+use Prim.Native.Nat.{ℕ, zero, suc}
+use Rattle.board.specs.declared.Board.{Board}
+use Rattle.board.specs.Rows.{first-given, admit-rows, close-rows}
+use Rattle.board.specs.Held.{in-slot}
+use Rattle.board.specs.Sound.{sound}
+use Rattle.board.specs.Admit.{admit-number, with-job, admitted-if, admitted}
+use Rattle.board.specs.Close.{close-number, moved-on, closed-if, closed}
+use Rattle.board.proofs.Soundness.Apart.{facts}
+use Rattle.board.proofs.Soundness.Together.{all-sound}
+use Rattle.board.proofs.Calls.Rows.{row-skipped, admits, closes}
+use Rattle.board.proofs.Calls.SoundAfterAdmitting.{after-admitting}
+use Rattle.board.proofs.Calls.SoundAfterClosing.{after-closing}
+
+-- on a sound board row 2 is never given
+pub admit-number-sound : (b : Board) (t w g : ℕ) → sound b ≡ true
+    → admit-number b t w g ≡ first-given (admit-rows (b .slot .0) (b .highest) (in-slot b) (b .depth) t w g)
+unfolding admit-number
+admit-number-sound b t w g s = row-skipped 2 (not (sound b)) _ (ap not s)
+
+pub close-number-sound : (b : Board) (lent : ℕ) → sound b ≡ true → close-number b lent ≡ first-given (close-rows (b .slot .0) lent)
+unfolding close-number
+close-number-sound b lent s = row-skipped 2 (not (sound b)) _ (ap not s)
+
+pub with-job-sound : (b : Board) (t w g : ℕ) → sound b ≡ true → admit-number b t w g ≡ 0 → sound (with-job b t w g) ≡ true
+with-job-sound b t w g s e =
+    all-sound (with-job b t w g)
+    (after-admitting b t w g (facts b s) (admits (b .slot .0) (b .highest) (in-slot b) (b .depth) t w g (sym (admit-number-sound b t w g s) ∙ e)))
+
+pub moved-on-sound : (b : Board) (lent : ℕ) → sound b ≡ true → close-number b lent ≡ 0 → sound (moved-on b) ≡ true
+moved-on-sound b lent s e =
+    all-sound (moved-on b) (after-closing b (facts b s) (closes (b .slot .0) lent (sym (close-number-sound b lent s) ∙ e) .going))
+
+-- soundness is kept
+pub admitted-sound : (b : Board) (t w g : ℕ) → sound b ≡ true → sound (admitted b t w g .board) ≡ true
+unfolding admitted admitted-if
+admitted-sound b t w g s = go (admit-number b t w g) refl
+  where
+    go : (n : ℕ) → admit-number b t w g ≡ n → sound (admitted-if n b t w g .board) ≡ true
+    go zero e = with-job-sound b t w g s e
+    go (suc n) e = s
+
+pub closed-sound : (b : Board) (lent : ℕ) → sound b ≡ true → sound (closed b lent .board) ≡ true
+unfolding closed closed-if
+closed-sound b lent s = go (close-number b lent) refl
+  where
+    go : (n : ℕ) → close-number b lent ≡ n → sound (closed-if n b .board) ≡ true
+    go zero e = moved-on-sound b lent s e
+    go (suc n) e = s
+
+-- a refused call hands back its board
+pub admitted-refused : (b : Board) (t w g : ℕ) → (admitted b t w g .refusal ≡ 0 → ⊥) → admitted b t w g .board ≡ b
+unfolding admitted admitted-if
+admitted-refused b t w g = go (admit-number b t w g)
+  where
+    go : (n : ℕ) → (admitted-if n b t w g .refusal ≡ 0 → ⊥) → admitted-if n b t w g .board ≡ b
+    go zero h = absurd (h refl)
+    go (suc n) h = refl
+
+pub closed-refused : (b : Board) (lent : ℕ) → (closed b lent .refusal ≡ 0 → ⊥) → closed b lent .board ≡ b
+unfolding closed closed-if
+closed-refused b lent = go (close-number b lent)
+  where
+    go : (n : ℕ) → (closed-if n b .refusal ≡ 0 → ⊥) → closed-if n b .board ≡ b
+    go zero h = absurd (h refl)
+    go (suc n) h = refl

@@ -1,0 +1,4 @@
+pub mod Lists
+pub mod Soundness
+pub mod Calls
+pub mod Tallies

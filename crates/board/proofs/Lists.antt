@@ -1,0 +1,4 @@
+pub mod Spread
+pub mod Parts
+pub mod Joined
+pub mod Once

@@ -1,0 +1,5 @@
+pub mod Facts
+pub mod Apart
+pub mod Together
+pub mod HeldCount
+pub mod FreePlace

@@ -1,0 +1,117 @@
+-- What a rule's schedule bakes in the first k slots, counted off the jobs that it bakes.
+use mathlib.Core.Path.{_≡_, refl, sym, ap, ap₂, _∙_, subst}
+use mathlib.Core.Bool.{Bool, true, false, not, cond, _&&_}
+use mathlib.Core.Logic.{_⊎_, inl, inr}
+use mathlib.Core.Option.{Option, none, some}
+use mathlib.Core.List.{List, [], _∷_, _++_, map, List·Memᴰ, List·Memᴰ·head, List·Memᴰ·tail}
+use Prim.Native.Nat.{ℕ, zero, suc, _+_, _≤_, _<_}
+use native.Mathlib.Omega.{arith}
+use lib.Dec.{eqb}
+use lib.ListN.{length, getD}
+use borrow.Author.Tests.{eqb-true, eq-eqb, ne-eqb}
+use Rattle.lists.specs.Select.{one-if, has}
+use Rattle.lists.proofs.Tests.{test, never, and-left, and-right, and-intro, cond-true, cond-false, same-test}
+use Rattle.lists.proofs.Members.{has-mem, mem-has, none-has}
+use Rattle.rule.specs.Job.{Job}
+use Rattle.rule.specs.Bake.{ticket-of}
+use Rattle.books.specs.Book.{Book, closed, closings, jobs, entered}
+use Rattle.books.specs.Schedule.{Schedule, gives, baked-in, from-slot}
+use Rattle.books.specs.Rule.{Rule, choices, made-by}
+use Rattle.books.specs.Rival.{Setting, Tried}
+use Rattle.books.proofs.Tickets.{Rising, rising-above, one-job}
+use Rattle.books.proofs.Left.{jobs-rising}
+use Rattle.books.proofs.Picks.{picks, picks-choices, picks-from}
+
+-- the ticket of each slot
+pub from-slot-at : (s : ℕ) (ts : List ℕ) (i : ℕ) → from-slot s ts (s + i) ≡ getD ts i 0
+unfolding from-slot
+from-slot-at s [] zero = refl
+from-slot-at s [] (suc i) = refl
+from-slot-at s (t ∷ ts) zero = cond-true (eqb (s + 0) s) t (from-slot (suc s) ts (s + 0)) (eq-eqb (s + 0) s (omega arith))
+from-slot-at s (t ∷ ts) (suc i) =
+    cond-false (eqb (s + suc i) s) t (from-slot (suc s) ts (s + suc i)) (ne-eqb (s + suc i) s (λ e. omega arith))
+    ∙ ap (from-slot (suc s) ts) (let z : s + suc i ≡ suc s + i = omega arith in z) ∙ from-slot-at (suc s) ts i
+
+-- the job of a slot passes the test
+unfoldable pub passes : (Job → Bool) → Option Job → Bool
+passes q none = false
+passes q (some r) = q r
+
+-- how many of the first k do
+unfoldable pub tally : (Job → Bool) → List (Option Job) → ℕ → ℕ
+tally q os zero = 0
+tally q [] (suc k) = 0
+tally q (o ∷ os) (suc k) = one-if (passes q o) + tally q os k
+
+pub tally-none : (q : Job → Bool) (os : List (Option Job)) → tally q os 0 ≡ 0
+unfolding tally
+tally-none q [] = refl
+tally-none q (o ∷ os) = refl
+
+pub tally-last : (q : Job → Bool) (os : List (Option Job)) (k : ℕ) → tally q os (suc k) ≡ tally q os k + one-if (passes q (getD os k none))
+unfolding tally passes one-if
+tally-last q [] zero = refl
+tally-last q [] (suc k) = refl
+tally-last q (o ∷ os) zero = omega (arith, tally-none q os)
+tally-last q (o ∷ os) (suc k) = omega (arith, tally-last q os k)
+
+pub getD-map-ticket : (os : List (Option Job)) (i : ℕ) → getD (map ticket-of os) i 0 ≡ ticket-of (getD os i none)
+unfolding ticket-of
+getD-map-ticket [] zero = refl
+getD-map-ticket [] (suc i) = refl
+getD-map-ticket (o ∷ os) zero = refl
+getD-map-ticket (o ∷ os) (suc i) = getD-map-ticket os i
+
+pub getD-mem : (os : List (Option Job)) (i : ℕ) (r : Job) → getD os i none ≡ some r → List·Memᴰ (some r) os
+getD-mem [] zero r e = let z : _≡_ {A = ℕ} 0 1 = cc in absurd (omega arith)
+getD-mem [] (suc i) r e = let z : _≡_ {A = ℕ} 0 1 = cc in absurd (omega arith)
+getD-mem (o ∷ os) zero r e = List·Memᴰ·head (sym e)
+getD-mem (o ∷ os) (suc i) r e = List·Memᴰ·tail (getD-mem os i r e)
+
+-- a slot that is given the ticket of a job of the book passes if the job does
+pub gives-job : (q : Job → Bool) (J : List Job) (o : Option Job) → Rising 0 J → ((r : Job) → o ≡ some r → List·Memᴰ r J)
+    → has (λ r. eqb (r .ticket) (ticket-of o) && q r) J ≡ passes q o
+unfolding passes ticket-of
+gives-job q J none h f =
+    none-has (λ r. eqb (r .ticket) 0 && q r) J (λ x m. ap (λ b. b && q x) (ne-eqb (x .ticket) 0 (λ e. omega (arith, rising-above h m))))
+gives-job q J (some r) h f =
+    same-test (has at J) (q r)
+    (λ e.
+    let x = has-mem at J e in
+    let same = one-job h (x .1) (f r refl) (eqb-true (x .0 .ticket) (r .ticket) (and-left (eqb (x .0 .ticket) (r .ticket)) (q (x .0)) (x .2))) in
+    sym (ap q same) ∙ and-right (eqb (x .0 .ticket) (r .ticket)) (q (x .0)) (x .2))
+    (λ e. mem-has at (f r refl) (and-intro (eqb (r .ticket) (r .ticket)) (q r) (eq-eqb (r .ticket) (r .ticket) refl) e))
+  where
+    at : Job → Bool
+    at x = eqb (x .ticket) (r .ticket) && q x
+
+-- the picks of a rule on a book
+abbrev pub picks-on : Rule → ℕ → Book → List (Option Job)
+picks-on q d B = picks q d (B .beginning) [] (B .beginning .slot) (B .beginning .jobs) (B .events)
+
+pub baked-tally : (S : Setting) (B : Book) → Tried S B → (q : Rule) (d : ℕ) (test : Job → Bool) (k : ℕ)
+    → baked-in test B (made-by q d B) k ≡ tally test (picks-on q d B) k
+unfolding baked-in tally
+baked-tally S B T q d test zero = sym (tally-none test (picks-on q d B))
+baked-tally S B T q d test (suc k) =
+    omega (arith, baked-tally S B T q d test k, tally-last test os k, ap one-if slot)
+  where
+    os : List (Option Job)
+    os = picks-on q d B
+
+    o : Option Job
+    o = getD os k none
+
+    ticket : made-by q d B (B .beginning .slot + k) ≡ ticket-of o
+    ticket =
+        unfold made-by in
+        (from-slot-at (B .beginning .slot) (choices q d (B .beginning) [] (B .beginning .slot) (B .beginning .jobs) (B .events)) k
+        ∙ ap (λ (ts : List ℕ). getD ts k 0) (picks-choices q d (B .beginning) [] (B .beginning .slot) (B .beginning .jobs) (B .events))
+        ∙ getD-map-ticket os k)
+
+    slot : gives test B (made-by q d B) (B .beginning .slot + k) ≡ passes test o
+    slot =
+        unfold gives in
+        (ap (λ t. has (λ r. eqb (r .ticket) t && test r) (jobs B)) ticket
+        ∙ gives-job test (jobs B) o (jobs-rising S B T)
+        (λ r e. unfold jobs in picks-from q d (B .beginning) [] (B .beginning .slot) (B .beginning .jobs) (B .events) r (getD-mem os k r e)))

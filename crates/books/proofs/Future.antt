@@ -1,0 +1,82 @@
+-- Items as events: each enters as a job with a new ticket, and each list after the first comes behind a closing.
+use mathlib.Core.Path.{_≡_, refl, sym, ap, ap₂, _∙_, subst}
+use mathlib.Core.Bool.{Bool, true, false, _&&_}
+use mathlib.Core.List.{List, [], _∷_, _++_, append-nil}
+use Prim.Native.Nat.{ℕ, zero, suc, _+_, _-_, _≤_, _<_}
+use native.Mathlib.Omega.{arith}
+use lib.Dec.{leb, ltb}
+use lib.ListN.{length}
+use borrow.Author.Tests.{le-leb, lt-ltb}
+use Rattle.lists.proofs.Tests.{and-intro}
+use Rattle.heights.proofs.Items.Item.{Item, Each}
+use Rattle.heights.proofs.Adversary.Allowed.{Grades, Fit, AllFit}
+use Rattle.rule.specs.Job.{Job, job}
+use Rattle.rule.specs.Grade.{bits}
+use Rattle.rule.proofs.Bits.Number.{number, bits-number}
+use Rattle.rule.proofs.NoRegret.Items.{item, items}
+use Rattle.books.specs.Book.{Event, enter, end-slot, closings}
+use Rattle.books.specs.Rival.{Setting, fit, lifted}
+use Rattle.books.proofs.Groups.{first, later}
+use Rattle.books.proofs.Runs.{groups}
+
+-- the grades that a setting allows, as bits
+unfoldable pub ok : Setting → Grades
+ok S w = fit S (number w)
+
+unfoldable pub enter-all : ℕ → ℕ → List Item → List Event → List Event
+enter-all h s [] es = es
+enter-all h s (p ∷ F) es = enter (suc h) (p .last + 1 - s) (number (p .grade)) ∷ enter-all (suc h) s F es
+
+unfoldable pub future : ℕ → ℕ → List Item → List (List Item) → List Event
+future h s F [] = enter-all h s F []
+future h s F (G ∷ fs) = enter-all h s F (end-slot ∷ future (h + length F) (suc s) G fs)
+
+module _ (S : Setting) where
+  abbrev d : ℕ
+  d = S .depth
+
+  enter-lifted : (h s : ℕ) (F : List Item) (es : List Event) → Each (Fit (ok S) d s) F → lifted S (h + length F) es ≡ true → lifted S h (enter-all h s F es) ≡ true
+  unfolding enter-all lifted Each ok
+  enter-lifted h s [] es f e = subst (λ n. lifted S n es ≡ true) (let z : h + 0 ≡ h = omega arith in z) e
+  enter-lifted h s (p ∷ F) es f e =
+      and-intro (ltb h (suc h) && leb 1 (p .last + 1 - s) && fit S (number (p .grade))) (lifted S (suc h) (enter-all (suc h) s F es))
+      (and-intro (ltb h (suc h) && leb 1 (p .last + 1 - s)) (fit S (number (p .grade)))
+      (and-intro (ltb h (suc h)) (leb 1 (p .last + 1 - s)) (lt-ltb h (suc h) (omega arith)) (le-leb 1 (p .last + 1 - s) (omega (arith, f .0 .date))))
+      (f .0 .allowed .in-set))
+      (enter-lifted (suc h) s F es (f .1) (subst (λ n. lifted S n es ≡ true) (let z : h + suc (length F) ≡ suc h + length F = omega arith in z) e))
+
+  pub future-lifted : (h s : ℕ) (F : List Item) (fs : List (List Item)) → Each (Fit (ok S) d s) F → AllFit (ok S) d (suc s) fs → lifted S h (future h s F fs) ≡ true
+  unfolding future lifted AllFit
+  future-lifted h s F [] f a = enter-lifted h s F [] f refl
+  future-lifted h s F (G ∷ fs) f a = enter-lifted h s F (end-slot ∷ future (h + length F) (suc s) G fs) f (future-lifted (h + length F) (suc s) G fs (a .0) (a .1))
+
+  -- an item enters as itself
+  as-item : (h s : ℕ) (p : Item) → Fit (ok S) d s p → item d (job (suc h) s (p .last + 1 - s) (number (p .grade))) ≡ p
+  unfolding job
+  as-item h s p f =
+      let l : s + (p .last + 1 - s) - 1 ≡ p .last = omega (arith, f .date) in
+      let g = bits-number d (p .grade) (f .allowed .bits) in
+      λ i. record { last = l i; grade = g i }
+
+  enter-first : (h s : ℕ) (F : List Item) (es : List Event) → Each (Fit (ok S) d s) F → items d (first s (enter-all h s F es)) ≡ F ++ items d (first s es)
+  unfolding enter-all first items Each
+  enter-first h s [] es f = refl
+  enter-first h s (p ∷ F) es f = ap₂ _∷_ (as-item h s p (f .0)) (enter-first (suc h) s F es (f .1))
+
+  enter-later : (h s : ℕ) (F : List Item) (es : List Event) → later s (enter-all h s F es) ≡ later s es
+  unfolding enter-all later
+  enter-later h s [] es = refl
+  enter-later h s (p ∷ F) es = enter-later (suc h) s F es
+
+  pub future-first : (h s : ℕ) (F : List Item) (fs : List (List Item)) → Each (Fit (ok S) d s) F → items d (first s (future h s F fs)) ≡ F
+  unfolding future first items
+  future-first h s F [] f = enter-first h s F [] f ∙ append-nil F
+  future-first h s F (G ∷ fs) f = enter-first h s F (end-slot ∷ future (h + length F) (suc s) G fs) f ∙ append-nil F
+
+  pub future-later : (h s : ℕ) (F : List Item) (fs : List (List Item)) → Each (Fit (ok S) d s) F → AllFit (ok S) d (suc s) fs
+      → groups d (later s (future h s F fs)) ≡ fs
+  unfolding future later groups AllFit
+  future-later h s F [] f a = ap (groups d) (enter-later h s F [])
+  future-later h s F (G ∷ fs) f a =
+      ap (groups d) (enter-later h s F (end-slot ∷ future (h + length F) (suc s) G fs))
+      ∙ ap₂ _∷_ (future-first (h + length F) (suc s) G fs (a .0)) (future-later (h + length F) (suc s) G fs (a .0) (a .1))

@@ -1,0 +1,105 @@
+-- The jobs left to a rule on a book with the limits lifted: their tickets rise from 1 and stay below those still to come.
+use mathlib.Core.Path.{_≡_, refl, sym, ap, _∙_, subst}
+use mathlib.Core.Bool.{Bool, true, false, not, _&&_}
+use mathlib.Core.Logic.{_⊎_, inl, inr}
+use mathlib.Core.List.{List, [], _∷_, _++_, map, List·Memᴰ, List·Memᴰ·head, List·Memᴰ·tail, List·Memᴰ·append-cases, List·Memᴰ·eq-of-singleton}
+use Prim.Native.Nat.{ℕ, suc, _≤_, _<_}
+use native.Mathlib.Omega.{arith}
+use lib.Dec.{ltb, leb, eqb}
+use borrow.Author.Tests.{ltb-true, leb-true}
+use Rattle.lists.specs.Select.{select, every}
+use Rattle.lists.specs.Rise.{rise}
+use Rattle.lists.proofs.Tests.{and-left, and-right}
+use Rattle.lists.proofs.Members.{every-mem}
+use Rattle.rule.specs.Job.{Job, job}
+use Rattle.books.specs.Book.{Beginning, Event, enter, end-slot, Book, entered, jobs}
+use Rattle.books.specs.Rule.{without}
+use Rattle.books.specs.Rival.{Setting, fit, lifted, begun, Tried}
+use Rattle.books.proofs.Tickets.{tickets, Rising, rising-nil, rising-cons, rising-lower, rising-above, rising-select, rising-append, without-mem}
+
+-- an event that enters a job, taken apart
+pub record Enters (S : Setting) (h t w g : ℕ) (es : List Event) : Type 0 where
+  pub above : h < t
+  pub waits : 1 ≤ w
+  pub fits : fit S g ≡ true
+  pub later : lifted S t es ≡ true
+
+pub enters : (S : Setting) (h t w g : ℕ) (es : List Event) → lifted S h (enter t w g ∷ es) ≡ true → Enters S h t w g es
+unfolding lifted
+enters S h t w g es e =
+    let a = ltb h t in
+    let b = leb 1 w in
+    let c = fit S g in
+    let r = lifted S t es in
+    let abc = and-left (a && b && c) r e in
+    let ab = and-left (a && b) c abc in
+    record {
+      above = ltb-true h t (and-left a b ab);
+      waits = leb-true 1 w (and-right a b ab);
+      fits = and-right (a && b) c abc;
+      later = and-right (a && b && c) r e;
+    }
+
+pub ends : (S : Setting) (h : ℕ) (es : List Event) → lifted S h (end-slot ∷ es) ≡ true → lifted S h es ≡ true
+unfolding lifted
+ends S h es e = e
+
+-- the jobs left, after the highest ticket h
+pub record Left (h : ℕ) (L : List Job) : Type 0 where
+  pub rising : Rising 0 L
+  pub most : (x : Job) → List·Memᴰ x L → x .ticket ≤ h
+
+pub left-nil : (h : ℕ) → Left h []
+left-nil h = record { rising = rising-nil 0; most = λ x m. absurd (elim m [ ]) }
+
+pub left-enter : {h : ℕ} {L : List Job} (t s w g : ℕ) → Left h L → h < t → Left t (L ++ (job t s w g ∷ []))
+unfolding job
+left-enter {h} {L} t s w g l a =
+    record {
+      rising = rising-append h L (job t s w g ∷ []) (l .rising) (l .most) (omega arith) (rising-cons a (rising-nil t));
+      most = λ x m. go x (List·Memᴰ·append-cases L m);
+    }
+  where
+    go : (x : Job) → List·Memᴰ x L ⊎ List·Memᴰ x (job t s w g ∷ []) → x .ticket ≤ t
+    go x (inl m) = omega (arith, l .most x m)
+    go x (inr m) = omega (arith, ap (λ (y : Job). y .ticket) (List·Memᴰ·eq-of-singleton m))
+
+pub left-without : {h : ℕ} {L : List Job} (t : ℕ) → Left h L → Left h (without t L)
+unfolding without
+left-without {h} {L} t l =
+    record {
+      rising = rising-select (λ r. not (eqb (r .ticket) t)) L (l .rising);
+      most = λ x m. l .most x (without-mem t L m .0);
+    }
+
+-- the jobs still to come
+pub entered-rising : (S : Setting) (h s : ℕ) (es : List Event) → lifted S h es ≡ true → Rising h (entered s es)
+unfolding entered job
+entered-rising S h s [] e = rising-nil h
+entered-rising S h s (enter t w g ∷ es) e = let k = enters S h t w g es e in rising-cons (k .above) (entered-rising S t s es (k .later))
+entered-rising S h s (end-slot ∷ es) e = entered-rising S h (suc s) es (ends S h es e)
+
+-- the jobs at a beginning
+pub begun-left : (S : Setting) (b : Beginning) → begun S b ≡ true → Left (b .highest) (b .jobs)
+unfolding begun
+begun-left S b e =
+    record {
+      rising = record { rises = and-left (rise 0 (tickets (b .jobs))) (every here (b .jobs)) e };
+      most =
+          λ x m.
+          leb-true (x .ticket) (b .highest)
+          (and-left (leb (x .ticket) (b .highest)) (fit S (x .grade))
+          (and-left (leb (x .ticket) (b .highest) && fit S (x .grade)) (leb (x .admitted) (b .slot))
+          (every-mem here (and-right (rise 0 (tickets (b .jobs))) (every here (b .jobs)) e) m)));
+    }
+  where
+    here : Job → Bool
+    here r = leb (r .ticket) (b .highest) && fit S (r .grade) && leb (r .admitted) (b .slot)
+
+-- all jobs of a book
+pub jobs-rising : (S : Setting) (B : Book) → Tried S B → Rising 0 (jobs B)
+unfolding jobs
+jobs-rising S B T =
+    let l = begun-left S (B .beginning) (T .present) in
+    rising-append (B .beginning .highest) (B .beginning .jobs) (entered (B .beginning .slot) (B .events)) (l .rising) (l .most) (omega arith)
+    (entered-rising S (B .beginning .highest) (B .beginning .slot) (B .events) (T .later))

@@ -1,0 +1,83 @@
+-- The rule that follows q up to a closing and is ours from that closing on: what it has there, and what it bakes.
+use mathlib.Core.Path.{_≡_, refl, sym, ap, ap₂, _∙_, subst}
+use mathlib.Core.Bool.{Bool, true, false}
+use mathlib.Core.Option.{Option}
+use mathlib.Core.List.{List, [], _∷_, _++_}
+use Prim.Native.Nat.{ℕ, zero, suc, _+_, _≤_, _<_}
+use native.Mathlib.Omega.{arith}
+use lib.ListN.{length}
+use Rattle.lists.specs.Select.{one-if}
+use Rattle.rule.specs.Job.{Job}
+use Rattle.books.specs.Book.{Beginning, Event, end-slot, closings}
+use Rattle.books.specs.Schedule.{baked-in}
+use Rattle.books.specs.Rule.{Rule, valid, without, made-by}
+use Rattle.books.specs.Rival.{Setting, lifted, Tried}
+use Rattle.books.specs.NoRegretRule.{Choice, by-choice, our-choice, KeepsAlong}
+use Rattle.books.proofs.ByChoice.{Reached, reached-start, reached-end, names}
+use Rattle.books.proofs.Left.{Left}
+use Rattle.books.proofs.Picks.{found, picks}
+use Rattle.books.proofs.Counts.{passes, tally}
+use Rattle.books.proofs.Positions.{past-after, past-all}
+use Rattle.books.proofs.Follow.{follow, OursAfter, later, here, after-n, ours-from}
+use Rattle.books.proofs.Lockstep.{Locked, lock}
+use Rattle.books.proofs.Stage.{staged, past-at, slot-at, left-at, baked-at, rest-at, picks-before, picks-after, staged-count}
+
+module _ (q : Rule) (d : ℕ) (b : Beginning) (pre : List Event) where
+  abbrev f : Choice
+  f = follow (length pre) q
+
+  abbrev pub turned : Rule
+  turned = by-choice f
+
+  abbrev past : List Event
+  past = past-at q d b pre
+
+  abbrev s : ℕ
+  s = slot-at q d b pre
+
+  abbrev L : List Job
+  L = left-at q d b pre
+
+  -- our choice at the closing, and the jobs left after it
+  abbrev pub ours-at : ℕ
+  ours-at = our-choice d b past s L
+
+  abbrev pub ours-rest : List Job
+  ours-rest = without (valid s L ours-at) L
+
+  locked : Locked d b (length pre) q [] (b .slot) (b .jobs) pre
+  locked = lock d b (length pre) q [] (b .slot) (b .jobs) pre (reached-start f d b) (omega arith)
+
+  from-here : OursAfter f d b past
+  from-here = after-n d b (length pre) q past (let z : length past ≡ length pre = ap length (past-all [] pre) in omega arith)
+
+  choice : turned d b past ≡ ours-at
+  choice = names f d b past s L (locked .reached) ∙ here f d b past from-here s L
+
+  abbrev pub turned-after : List Event → List (Option Job)
+  turned-after E = picks turned d b (past ++ (end-slot ∷ [])) (suc s) ours-rest E
+
+  -- the same before, our choice there
+  pub turned-count : (S : Setting) (E : List Event) → Tried S (staged b pre E) → (test : Job → Bool) (i : ℕ)
+      → baked-in test (staged b pre E) (made-by turned d (staged b pre E)) (closings pre + suc i)
+      ≡ tally test (picks-before q d b pre) (closings pre) + (one-if (passes test (found s L ours-at)) + tally test (turned-after E) i)
+  turned-count S E T test i =
+      staged-count turned d b pre S E T test i
+      ∙ ap₂
+      (λ (os : List (Option Job)) (K : List Job).
+      tally test os (closings pre)
+      + (one-if (passes test (found s K (turned d b past))) + tally test (picks turned d b (past ++ (end-slot ∷ [])) (suc s) (without (valid s K (turned d b past)) K) E) i))
+      (locked .same-picks) (locked .same-left)
+      ∙ ap
+      (λ x.
+      tally test (picks-before q d b pre) (closings pre)
+      + (one-if (passes test (found s L x)) + tally test (picks turned d b (past ++ (end-slot ∷ [])) (suc s) (without (valid s L x) L) E) i))
+      choice
+
+  -- it keeps to the sets of every order from there on
+  pub turned-keeps : (S : Setting) (j : ℕ) → j ≤ d → (E : List Event) (h : ℕ) → Left h ours-rest → lifted S h E ≡ true
+      → KeepsAlong j turned d b (past ++ (end-slot ∷ [])) (suc s) ours-rest E
+  turned-keeps S j k E h l e =
+      ours-from S j d b k f (past ++ (end-slot ∷ [])) (suc s) ours-rest E h l e
+      (subst (λ x. Reached f d b (past ++ (end-slot ∷ [])) (suc s) (without (valid s L x) L)) (here f d b past from-here s L) (reached-end f d b past s L (locked .reached)))
+      (later f d b past end-slot from-here)

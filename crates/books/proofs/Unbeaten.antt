@@ -1,0 +1,85 @@
+-- A rule that keeps to the tight sets is a rival. One that keeps to the no-regret sets of order j + 1 has on every book, for every start of j bits,
+-- at least the count of any that keeps to those of order j.
+use mathlib.Core.Path.{_≡_, refl, sym, ap, _∙_, subst}
+use mathlib.Core.Bool.{Bool, true, false}
+use mathlib.Core.List.{List, [], _∷_, _++_}
+use Prim.Native.Nat.{ℕ, zero, suc, _≤_, _<_}
+use native.Mathlib.Omega.{arith}
+use lib.ListN.{length, take}
+use Rattle.heights.proofs.Schedule.NoMore.{no-schedule-more}
+use Rattle.heights.proofs.Schedule.Run.{sum}
+use Rattle.heights.proofs.Trees.Better.{better}
+use Rattle.heights.proofs.Items.Tree.{tree}
+use Rattle.rule.specs.Job.{Job, job}
+use Rattle.rule.specs.Grade.{graded}
+use Rattle.rule.proofs.NoRegret.Items.{items}
+use Rattle.books.specs.Book.{Beginning, Event, enter, end-slot, Book, closed}
+use Rattle.books.specs.Schedule.{Schedule, IsSchedule, baked-in, total}
+use Rattle.books.specs.Rule.{Rule, valid, without, made-by}
+use Rattle.books.specs.Rival.{Setting, lifted, Tried, Rival, count-of, NoLarger}
+use Rattle.books.specs.NoRegretRule.{KeepsAlong, Keeps}
+use Rattle.books.proofs.Groups.{first}
+use Rattle.books.proofs.Left.{Left, enters, ends, left-enter, left-without, begun-left}
+use Rattle.books.proofs.Counts.{tally, picks-on, baked-tally}
+use Rattle.books.proofs.Realised.{following, realised}
+use Rattle.books.proofs.Kept.{kept, kept-at, kept-wider}
+use Rattle.books.proofs.Runs.{ones, sum-ones, any-run}
+use Rattle.books.proofs.KeptRuns.{tight-run, tree-run}
+
+-- no schedule bakes more
+pub keeps-rival : (S : Setting) (q : Rule) → Keeps S 0 q → Rival S q
+unfolding Rival Keeps total
+keeps-rival S q a B T k h p P =
+    let d = S .depth in
+    let b = B .beginning in
+    let l = begun-left S b (T .present) in
+    omega (
+      arith,
+      no-schedule-more
+          (tight-run S 0 q d b (omega arith) [] (b .slot) (b .jobs) (B .events) (b .highest) l (T .later) (a B T))
+          (any-run S (following p) d b [] (b .slot) (b .jobs) (B .events) (b .highest) l (T .later))
+          k,
+      sum-ones (picks-on q d B) k,
+      sum-ones (picks-on (following p) d B) k,
+      baked-tally S B T q d (λ r. true) k,
+      realised S B T p P d (λ r. true) k h,
+    )
+
+-- no count is larger
+pub keeps-better : (S : Setting) (j : ℕ) → j < S .depth → (q r : Rule) → Keeps S (suc j) q → Keeps S j r → (B : Book) → Tried S B
+    → NoLarger S j B (made-by r (S .depth) B) (made-by q (S .depth) B)
+unfolding NoLarger Keeps count-of
+keeps-better S j i q r a c B T u e k h =
+    let d = S .depth in
+    let b = B .beginning in
+    let l = begun-left S b (T .present) in
+    let v = u ++ (false ∷ []) in
+    omega (
+      arith,
+      better j d (tree d (items d (b .jobs ++ first (b .slot) (B .events)))) (λ w. tally (graded d w) (picks-on q d B) k) (λ w. tally (graded d w) (picks-on r d B) k) i
+          (tree-run S (suc j) q d b i [] (b .slot) (b .jobs) (B .events) (b .highest) l (T .later) (a B T) k)
+          (tree-run S j r d b (omega arith) [] (b .slot) (b .jobs) (B .events) (b .highest) l (T .later) (c B T) k)
+          u e,
+      baked-tally S B T q d (graded d v) k,
+      baked-tally S B T r d (graded d v) k,
+    )
+
+-- one order less
+keeps-wider-along : (S : Setting) (j : ℕ) (q : Rule) (d : ℕ) (b : Beginning) (past : List Event) (s : ℕ) (left : List Job) (es : List Event) (h : ℕ) → j < d
+    → Left h left → lifted S h es ≡ true → KeepsAlong (suc j) q d b past s left es → KeepsAlong j q d b past s left es
+unfolding KeepsAlong
+keeps-wider-along S j q d b past s left [] h i l e a = tt
+keeps-wider-along S j q d b past s left (enter t w g ∷ es) h i l e a =
+    let n = enters S h t w g es e in
+    keeps-wider-along S j q d b (past ++ (enter t w g ∷ [])) s (left ++ (job t s w g ∷ [])) es t i (left-enter t s w g l (n .above)) (n .later) a
+keeps-wider-along S j q d b past s left (end-slot ∷ es) h i l e a =
+    let x = q d b past in (
+      kept-at j d s left x (kept-wider j d s left x i (kept (suc j) d s h left x l (a .0))),
+      keeps-wider-along S j q d b (past ++ (end-slot ∷ [])) (suc s) (without (valid s left x) left) es h i (left-without (valid s left x) l) (ends S h es e) (a .1),
+    )
+
+pub keeps-wider : (S : Setting) (j : ℕ) (q : Rule) → j < S .depth → Keeps S (suc j) q → Keeps S j q
+unfolding Keeps
+keeps-wider S j q i a B T =
+    keeps-wider-along S j q (S .depth) (B .beginning) [] (B .beginning .slot) (B .beginning .jobs) (B .events) (B .beginning .highest) i
+    (begun-left S (B .beginning) (T .present)) (T .later) (a B T)

@@ -1,0 +1,4 @@
+pub mod Agree
+pub mod Answers
+pub mod Admitting
+pub mod Closing

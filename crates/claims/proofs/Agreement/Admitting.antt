@@ -1,0 +1,79 @@
+-- Board and book still agree after an admitting that the rows let through.
+use mathlib.Core.Path.{_≡_, sym, ap, ap₂, _∙_, subst}
+use mathlib.Core.Logic.{_⊎_, inl, inr}
+use mathlib.Core.List.{List, [], _∷_, _++_, List·Memᴰ, List·Memᴰ·append-cases, List·Memᴰ·eq-of-singleton}
+use Prim.Native.Nat.{ℕ, _+_, _-_, _≤_}
+use native.Mathlib.Omega.{arith}
+use lib.Dec.{eqb}
+use borrow.Author.Tests.{le-leb}
+use Rattle.lists.specs.Select.{select}
+use Rattle.lists.proofs.Members.{select-append, select-yes}
+use Rattle.lists.proofs.Counting.{count-append}
+use Rattle.rule.specs.Job.{Job, job, in-date}
+use Rattle.books.specs.Book.{enter, Book, highest, jobs, extend}
+use Rattle.board.specs.declared.Board.{Board}
+use Rattle.board.specs.Held.{held, in-slot}
+use Rattle.board.specs.Admit.{admit-number, with-job}
+use Rattle.board.proofs.Soundness.Facts.{admitted-in}
+use Rattle.board.proofs.Soundness.Apart.{facts}
+use Rattle.board.proofs.Soundness.FreePlace.{room}
+use Rattle.board.proofs.Calls.Rows.{Admits, admits}
+use Rattle.board.proofs.Calls.HeldAfter.{held-with-job}
+use Rattle.board.proofs.Calls.SoundAfter.{admit-number-sound, with-job-sound}
+use Rattle.claims.proofs.Extended.{present-entered, highest-entered, jobs-entered}
+use Rattle.claims.proofs.Agreement.Agree.{Agree}
+
+module _ (d s : ℕ) (b : Board) (B : Book) (left : List Job) (a : Agree d s b B left) (t w g : ℕ) (e : admit-number b t w g ≡ 0) where
+  rows : Admits (b .slot .0) (b .highest) (in-slot b) (b .depth) t w g
+  rows = admits (b .slot .0) (b .highest) (in-slot b) (b .depth) t w g (sym (admit-number-sound b t w g (a .is-sound)) ∙ e)
+
+  new-job : Job
+  new-job = job t s w g
+
+  new-held : held (with-job b t w g) ≡ held b ++ (new-job ∷ [])
+  unfolding new-job
+  new-held =
+      let f = facts b (a .is-sound) in
+      held-with-job b t w g (omega (arith, f .full, room b f (rows .room))) ∙ ap (λ k. held b ++ (job t k w g ∷ [])) (a .slot)
+
+  new-jobs : jobs (extend B (enter t w g)) ≡ jobs B ++ (new-job ∷ [])
+  unfolding new-job
+  new-jobs = jobs-entered B t w g ∙ ap (λ k. jobs B ++ (job t k w g ∷ [])) (a .book-slot)
+
+  -- both count one more in the slot
+  counts : admitted-in s (jobs (extend B (enter t w g))) ≡ admitted-in s (held (with-job b t w g))
+  counts =
+      omega (
+        arith,
+        ap (admitted-in s) new-jobs,
+        ap (admitted-in s) new-held,
+        a .same-intake,
+        count-append (λ (q : Job). eqb (q .admitted) s) (jobs B) (new-job ∷ []),
+        count-append (λ (q : Job). eqb (q .admitted) s) (held b) (new-job ∷ []),
+      )
+
+  dated : select (in-date s) (new-job ∷ []) ≡ new-job ∷ []
+  unfolding in-date new-job job select
+  dated = select-yes (in-date s) new-job [] (le-leb s (s + w - 1) (omega (arith, rows .some-laxity)))
+
+  of-either : (P : Job → Type 0) (A : List Job) → ((r : Job) → List·Memᴰ r A → P r) → P new-job → (r : Job) → List·Memᴰ r (A ++ (new-job ∷ [])) → P r
+  of-either P A h n r m = go (List·Memᴰ·append-cases A m)
+    where
+      go : List·Memᴰ r A ⊎ List·Memᴰ r (new-job ∷ []) → P r
+      go (inl k) = h r k
+      go (inr k) = subst P (sym (List·Memᴰ·eq-of-singleton k)) n
+
+  pub agree-admitted : Agree d s (with-job b t w g) (extend B (enter t w g)) (left ++ (job t s w g ∷ []))
+  unfolding with-job new-job job
+  agree-admitted =
+      record {
+        is-sound = with-job-sound b t w g (a .is-sound) e;
+        depth = a .depth;
+        slot = a .slot;
+        book-slot = present-entered B t w g ∙ a .book-slot;
+        same-highest = highest-entered B t w g;
+        same-intake = counts;
+        begun = λ r m. of-either (λ q. q .admitted ≤ s) (jobs B) (a .begun) (omega arith) r (subst (List·Memᴰ r) new-jobs m);
+        on-board = new-held ∙ ap₂ _++_ (a .on-board) (sym dated) ∙ sym (select-append (in-date s) left (new-job ∷ []));
+        ticketed = of-either (λ q. 1 ≤ q .ticket) left (a .ticketed) (omega (arith, rows .above));
+      }

@@ -1,0 +1,4 @@
+pub mod Added
+pub mod NamedAsChosen
+pub mod PlanOfOurRule
+pub mod BookTried

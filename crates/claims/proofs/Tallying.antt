@@ -1,0 +1,6 @@
+pub mod FedCounts
+pub mod RunFacts
+pub mod AdmitFacts
+pub mod Fates
+pub mod CloseFacts
+pub mod InBalance

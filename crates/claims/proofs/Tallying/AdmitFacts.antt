@@ -1,0 +1,90 @@
+-- The events of an admitting.
+use mathlib.Core.Path.{_≡_, refl, sym, ap, _∙_, subst}
+use mathlib.Core.Bool.{true, cond}
+use mathlib.Core.List.{[], _∷_, _++_, List·Memᴰ·eq-of-singleton}
+use Prim.Native.Nat.{ℕ, zero, suc, _+_, _^_, _≤_, _<_}
+use native.Mathlib.Omega.{arith}
+use lib.Dec.{eqb}
+use borrow.Author.Tests.{eq-eqb, ne-eqb}
+use Rattle.lists.specs.Select.{one-if, how-many}
+use Rattle.lists.proofs.Counting.{one-if-yes, one-if-most, count-append}
+use Rattle.rule.specs.Job.{Job, job}
+use Rattle.board.specs.declared.Board.{Board}
+use Rattle.board.specs.Limits.{most-in-slot, last-slot, deepest}
+use Rattle.board.specs.Held.{held, in-slot}
+use Rattle.board.specs.Sound.{sound}
+use Rattle.board.specs.Admit.{admit-number, with-job, admitted-if, admitted}
+use Rattle.board.proofs.Soundness.Facts.{SoundFacts, admitted-in}
+use Rattle.board.proofs.Soundness.Apart.{facts}
+use Rattle.board.proofs.Soundness.FreePlace.{room}
+use Rattle.board.proofs.Tallies.CountAt.{Cell}
+use Rattle.board.proofs.Calls.Rows.{Admits, admits}
+use Rattle.board.proofs.Calls.HeldAfter.{held-with-job}
+use Rattle.board.proofs.Calls.SoundAfter.{admit-number-sound, with-job-sound}
+use Rattle.claims.specs.Calls.{admit, board-after}
+use Rattle.claims.specs.Balance.{Noted, noted, on-board}
+use Rattle.claims.proofs.Tallying.RunFacts.{still, Leads, leads-nowhere}
+
+-- a grade of a sound board has a count
+pub eight-grades : (d g : ℕ) → d ≤ deepest → g < 2 ^ d → g ≤ 7
+unfolding deepest
+eight-grades zero g h k = omega arith
+eight-grades (suc zero) g h k = omega arith
+eight-grades (suc (suc zero)) g h k = omega arith
+eight-grades (suc (suc (suc zero))) g h k = omega arith
+eight-grades (suc (suc (suc (suc d)))) g h k = omega arith
+
+module _ (b : Board) (t w g : ℕ) (s : sound b ≡ true) (e : admit-number b t w g ≡ 0) where
+  rows : Admits (b .slot .0) (b .highest) (in-slot b) (b .depth) t w g
+  rows = admits (b .slot .0) (b .highest) (in-slot b) (b .depth) t w g (sym (admit-number-sound b t w g s) ∙ e)
+
+  known : SoundFacts b
+  known = facts b s
+
+  jobs : held (with-job b t w g) ≡ held b ++ (job t (b .slot .0) w g ∷ [])
+  jobs = held-with-job b t w g (omega (arith, known .full, room b known (rows .room)))
+
+  one-more : (n : ℕ) → on-board n (with-job b t w g) ≡ on-board n b + one-if (eqb g n)
+  unfolding on-board how-many job
+  one-more n =
+      omega (
+        arith,
+        ap (how-many (λ (r : Job). eqb (r .grade) n)) jobs,
+        count-append (λ (r : Job). eqb (r .grade) n) (held b) (job t (b .slot .0) w g ∷ []),
+      )
+
+  one-more-now : in-slot (with-job b t w g) ≡ in-slot b + 1
+  unfolding in-slot with-job how-many job
+  one-more-now =
+      omega (
+        arith,
+        ap (admitted-in (b .slot .0)) jobs,
+        one-if-yes (eqb (b .slot .0) (b .slot .0)) (eq-eqb (b .slot .0) (b .slot .0) refl),
+        count-append (λ (r : Job). eqb (r .admitted) (b .slot .0)) (held b) (job t (b .slot .0) w g ∷ []),
+      )
+
+  less : 1 + still (with-job b t w g) ≤ still b
+  unfolding still with-job most-in-slot last-slot
+  less = omega (arith, one-more-now, rows .room, rows .going, known .to-last)
+
+  taken : Leads b (record { kind = 0; grade = g } ∷ []) (with-job b t w g)
+  unfolding how-many one-if
+  taken =
+      record {
+        is-sound = with-job-sound b t w g s e;
+        cells = λ x m.
+            let r : Cell 0 g = record { kind = omega arith; grade = eight-grades (b .depth) g (known .shallow) (rows .graded) } in
+            subst (λ (y : Noted). Cell (y .kind) (y .grade)) (sym (List·Memᴰ·eq-of-singleton m)) r;
+        balance = λ n. omega (arith, one-more n);
+        intake = λ n. omega (arith, less, one-if-most (eqb g n));
+      }
+
+pub admit-leads : (b : Board) (t w g : ℕ) → sound b ≡ true → Leads b (noted b (admit t w g)) (board-after b (admit t w g))
+unfolding noted board-after admitted admitted-if
+admit-leads b t w g s = go (admit-number b t w g) refl
+  where
+    go : (n : ℕ) → admit-number b t w g ≡ n
+        → Leads b (cond (eqb (admitted-if n b t w g .refusal) 0) (record { kind = 0; grade = g } ∷ []) []) (admitted-if n b t w g .board)
+    go zero e = taken b t w g s e
+    go (suc n) e =
+        subst (λ c. Leads b (cond c (record { kind = 0; grade = g } ∷ []) []) b) (sym (ne-eqb (suc n) 0 (omega arith))) (leads-nowhere b s)

@@ -1,0 +1,113 @@
+-- Jobs as items, each with a last slot and a grade, and lists of them: how many have last slot at least s, as a part; one item less; what holds of each.
+use mathlib.Core.Path.{_≡_, refl}
+use mathlib.Core.Bool.{Bool, true, false}
+use mathlib.Core.List.{List, [], _∷_, _++_}
+use Prim.Native.Nat.{ℕ, suc, _+_, _-_, _≤_, _<_, min}
+use native.Mathlib.Omega.{arith}
+use lib.Dec.{leb}
+use lib.ListN.{length}
+use borrow.Author.Tests.{leb-true, leb-false}
+use Rattle.heights.proofs.Heights.Part.{Part, _⊕_, Same, Out}
+
+pub record Item : Type 0 where
+  pub last : ℕ
+  pub grade : List Bool
+
+-- its grade has d bits
+abbrev pub Bits : ℕ → Item → Type 0
+Bits d p = length (p .grade) ≡ d
+
+unfoldable pub one-if : Bool → ℕ
+one-if true = 1
+one-if false = 0
+
+-- how many have last slot at least s
+unfoldable pub count : List Item → ℕ → ℕ
+count [] s = 0
+count (p ∷ A) s = one-if (leb s (p .last)) + count A s
+
+one-leb : (s l : ℕ) → one-if (leb s l) ≡ min 1 (suc l - s)
+unfolding one-if
+one-leb s l = go (leb s l) refl
+  where
+    go : (b : Bool) → leb s l ≡ b → one-if b ≡ min 1 (suc l - s)
+    go true e = omega (arith, leb-true s l e)
+    go false e = omega (arith, leb-false s l e)
+
+pub count-nil : (s : ℕ) → count [] s ≡ 0
+unfolding count
+count-nil s = refl
+
+pub count-cons : (p : Item) (A : List Item) (s : ℕ) → count (p ∷ A) s ≡ min 1 (suc (p .last) - s) + count A s
+unfolding count
+count-cons p A s = omega (arith, one-leb s (p .last))
+
+pub count-anti : (A : List Item) (s t : ℕ) → s ≤ t → count A t ≤ count A s
+count-anti [] s t h = omega (arith, count-nil s, count-nil t)
+count-anti (p ∷ A) s t h = omega (arith, count-cons p A s, count-cons p A t, count-anti A s t h)
+
+pub count-append : (A B : List Item) (s : ℕ) → count (A ++ B) s ≡ count A s + count B s
+count-append [] B s = omega (arith, count-nil s)
+count-append (p ∷ A) B s = omega (arith, count-cons p (A ++ B) s, count-cons p A s, count-append A B s)
+
+pub end-of : List Item → ℕ
+end-of [] = 0
+end-of (p ∷ A) = suc (p .last) + end-of A
+
+pub count-end : (A : List Item) → count A (end-of A) ≡ 0
+unfolding end-of
+count-end [] = count-nil 0
+count-end (p ∷ A) =
+    let t = suc (p .last) + end-of A in
+    omega (arith, count-cons p A t, count-anti A (end-of A) t (omega arith), count-end A)
+
+abbrev pub part : List Item → Part
+part A = record { at = count A; anti = count-anti A; end = end-of A; none = count-end A }
+
+abbrev pub parts : List (List Item) → List Part
+parts [] = []
+parts (F ∷ fs) = part F ∷ parts fs
+
+pub part-append : (n : ℕ) (A B : List Item) → Same n (part (A ++ B)) (part A ⊕ part B)
+part-append n A B = record { is = λ s h. count-append A B s }
+
+-- B is A without one p
+pub data Less (p : Item) : List Item → List Item → Type 0 where
+  here : {A : List Item} → Less p (p ∷ A) A
+  there : {r : Item} {A B : List Item} → Less p A B → Less p (r ∷ A) (r ∷ B)
+
+pub less-low : {p : Item} {A B : List Item} → Less p A B → (s : ℕ) → s ≤ p .last → count A s ≡ suc (count B s)
+less-low {p} (here {A = A}) s h = omega (arith, count-cons p A s)
+less-low (there {r = r} {A = A} {B = B} l) s h = omega (arith, count-cons r A s, count-cons r B s, less-low l s h)
+
+pub less-high : {p : Item} {A B : List Item} → Less p A B → (s : ℕ) → p .last < s → count A s ≡ count B s
+less-high {p} (here {A = A}) s h = omega (arith, count-cons p A s)
+less-high (there {r = r} {A = A} {B = B} l) s h = omega (arith, count-cons r A s, count-cons r B s, less-high l s h)
+
+-- an item in date leaves
+pub part-out : {n : ℕ} {p : Item} {A B : List Item} → Less p A B → n ≤ p .last → Out n (p .last) (part A) (part B)
+part-out {n} {p} {A} {B} l h =
+    let q = p .last in
+    record {
+      date = h;
+      present = omega (arith, less-low l q (omega arith), less-high l (suc q) (omega arith), count-anti B q (suc q) (omega arith));
+      rest = record { low = λ s i j. less-low l s j; high = λ s i j. less-high l s j };
+    }
+
+-- an item out of date does not matter
+pub part-expired : (n : ℕ) (p : Item) (A : List Item) → p .last < n → Same n (part (p ∷ A)) (part A)
+part-expired n p A h = record { is = λ s i. omega (arith, count-cons p A s) }
+
+unfoldable pub Each : (Item → Type 0) → List Item → Type 0
+Each P [] = Unit {0}
+Each P (p ∷ A) = P p × Each P A
+
+pub each-append : (P : Item → Type 0) (A B : List Item) → Each P A → Each P B → Each P (A ++ B)
+unfolding Each
+each-append P [] B a b = b
+each-append P (p ∷ A) B a b = (a .0, each-append P A B (a .1) b)
+
+pub each-less : (P : Item → Type 0) {p : Item} {A B : List Item} → Each P A → Less p A B → P p
+unfolding Each
+each-less P e here = e .0
+each-less P e (there l) = each-less P (e .1) l

@@ -1,0 +1,105 @@
+-- The counts of a list of jobs as a part: how many have a last slot of at least s.
+use mathlib.Core.Path.{_≡_, refl, ap, _∙_}
+use mathlib.Core.Bool.{Bool, true, false, _&&_}
+use mathlib.Core.Logic.{_⊎_, inl, inr}
+use mathlib.Core.List.{List, [], _∷_, List·Memᴰ, List·Memᴰ·head, List·Memᴰ·tail}
+use Prim.Native.Nat.{ℕ, suc, _+_, _-_, _≤_, _<_, min}
+use native.Mathlib.Omega.{arith}
+use lib.Dec.{leb}
+use lib.ListN.{length}
+use borrow.Author.Tests.{leb-true, leb-false, le-leb}
+use Rattle.heights.proofs.Heights.Part.{Part, Same}
+use Rattle.lists.specs.Select.{one-if, select, how-many}
+use Rattle.lists.proofs.Tests.{cmp, and-right, and-intro, same-test}
+use Rattle.lists.proofs.Members.{select-mem}
+use Rattle.lists.proofs.Counting.{count-cong, count-in-selection}
+use Rattle.rule.specs.Job.{Job, laxity, in-date}
+use Rattle.rule.proofs.Tight.Excess.{up-to}
+
+-- how many jobs have a last slot of at least s
+abbrev pub from-on : List Job → ℕ → ℕ
+from-on A s = how-many (λ (r : Job). leb s (r .last)) A
+
+one-leb : (s l : ℕ) → one-if (leb s l) ≡ min 1 (suc l - s)
+unfolding one-if
+one-leb s l = go (leb s l) refl
+  where
+    go : (b : Bool) → leb s l ≡ b → one-if b ≡ min 1 (suc l - s)
+    go true e = omega (arith, leb-true s l e)
+    go false e = omega (arith, leb-false s l e)
+
+pub from-on-cons : (r : Job) (A : List Job) (s : ℕ) → from-on (r ∷ A) s ≡ min 1 (suc (r .last) - s) + from-on A s
+unfolding how-many
+from-on-cons r A s = omega (arith, one-leb s (r .last))
+
+pub from-on-nil : (s : ℕ) → from-on [] s ≡ 0
+unfolding how-many
+from-on-nil s = refl
+
+pub from-on-anti : (A : List Job) (s t : ℕ) → s ≤ t → from-on A t ≤ from-on A s
+from-on-anti [] s t h = omega (arith, from-on-nil s, from-on-nil t)
+from-on-anti (r ∷ A) s t h = omega (arith, from-on-cons r A s, from-on-cons r A t, from-on-anti A s t h)
+
+-- a slot past all last slots
+unfoldable pub past-all : List Job → ℕ
+past-all [] = 0
+past-all (r ∷ A) = suc (r .last) + past-all A
+
+pub from-on-past : (A : List Job) → from-on A (past-all A) ≡ 0
+unfolding past-all
+from-on-past [] = from-on-nil 0
+from-on-past (r ∷ A) =
+    omega (arith, from-on-cons r A (suc (r .last) + past-all A), from-on-anti A (past-all A) (suc (r .last) + past-all A) (omega arith), from-on-past A)
+
+unfoldable pub part : List Job → Part
+part A = record { at = from-on A; anti = from-on-anti A; end = past-all A; none = from-on-past A }
+
+pub part-at : (A : List Job) (s : ℕ) → part A .at s ≡ from-on A s
+unfolding part
+part-at A s = refl
+
+-- past a member's last slot the count has fallen
+pub member-falls : {A : List Job} {r : Job} → List·Memᴰ r A → (s t : ℕ) → s ≤ r .last → r .last < t → from-on A t < from-on A s
+member-falls {r = r} (List·Memᴰ·head {x = q} {xs = A} e) s t h k =
+    omega (arith, ap (λ (x : Job). x .last) e, from-on-cons q A s, from-on-cons q A t, from-on-anti A s t (omega arith))
+member-falls (List·Memᴰ·tail {x = q} {xs = A} m) s t h k = omega (arith, member-falls m s t h k, from-on-cons q A s, from-on-cons q A t)
+
+-- where the count has fallen there is a member
+pub fall-member : (A : List Job) (s t : ℕ) → from-on A t < from-on A s → (r : Job) × List·Memᴰ r A × (s ≤ r .last) × (r .last < t)
+fall-member [] s t h = absurd (omega (arith, from-on-nil s, from-on-nil t))
+fall-member (q ∷ A) s t h = go (λ k. fall-member A s t k) (cmp s (q .last)) (cmp t (q .last))
+  where
+    go : (from-on A t < from-on A s → (r : Job) × List·Memᴰ r A × (s ≤ r .last) × (r .last < t)) → (s ≤ q .last) ⊎ (q .last < s)
+        → (t ≤ q .last) ⊎ (q .last < t) → (r : Job) × List·Memᴰ r (q ∷ A) × (s ≤ r .last) × (r .last < t)
+    go ih (inl a) (inr b) = (q, List·Memᴰ·head refl, a, b)
+    go ih (inl a) (inl b) = let x = ih (omega (arith, from-on-cons q A s, from-on-cons q A t)) in (x .0, List·Memᴰ·tail (x .1), x .2, x .3)
+    go ih (inr a) b = let x = ih (omega (arith, from-on-cons q A s, from-on-cons q A t)) in (x .0, List·Memᴰ·tail (x .1), x .2, x .3)
+
+-- the jobs with laxity l or less, and those with a later last slot
+pub up-to-from-on : (now : ℕ) (A : List Job) (l s : ℕ) → suc s ≡ now + l → up-to now A l + from-on A (suc s) ≡ length A
+unfolding how-many laxity
+up-to-from-on now [] l s e = refl
+up-to-from-on now (r ∷ A) l s e =
+    omega (arith, up-to-from-on now A l s e, one-leb (r .last + 1 - now) l, one-leb (suc s) (r .last))
+
+-- all jobs are in date
+abbrev pub AllInDate : ℕ → List Job → Type 0
+AllInDate now A = (r : Job) → List·Memᴰ r A → now ≤ r .last
+
+pub in-date-all : (now : ℕ) (L : List Job) → AllInDate now (select (in-date now) L)
+unfolding in-date
+in-date-all now L r m = leb-true now (r .last) (select-mem (λ (q : Job). leb now (q .last)) r L m .1)
+
+-- the jobs in date have the counts of all, from now on
+pub in-date-same : (now : ℕ) (L : List Job) → Same now (part (select (in-date now) L)) (part L)
+unfolding in-date part
+in-date-same now L =
+    record {
+      is =
+          λ s h.
+          count-in-selection (λ (r : Job). leb s (r .last)) (λ (r : Job). leb now (r .last)) L
+          ∙ count-cong (λ (r : Job). leb now (r .last) && leb s (r .last)) (λ (r : Job). leb s (r .last)) L
+          (λ r m.
+          same-test (leb now (r .last) && leb s (r .last)) (leb s (r .last)) (and-right (leb now (r .last)) (leb s (r .last)))
+          (λ k. and-intro (leb now (r .last)) (leb s (r .last)) (le-leb now (r .last) (omega (arith, leb-true s (r .last) k))) k));
+    }

@@ -1,0 +1,22 @@
+//! The paper's numbers, written out a second time.
+
+use model::limits;
+
+#[test]
+fn limits_are_the_papers() {
+    assert_eq!(limits::LONGEST_LAXITY, 32);
+    assert_eq!(limits::MOST_PER_SLOT, 8);
+    assert_eq!(limits::MOST_HELD, 256);
+    assert_eq!(limits::LAST_SLOT, 1_000_000);
+    assert_eq!(limits::FULL_COUNT, 8_000_000);
+    assert_eq!(limits::LONGEST_LINE, 40);
+    assert_eq!(limits::DEEPEST, 3);
+    assert_eq!(limits::MOST_GRADES, 8);
+    assert_eq!(limits::MOST_DIGITS, 10);
+}
+
+#[test]
+fn a_slots_racks_over_the_longest_wait_fill_the_board() {
+    let full = limits::MOST_PER_SLOT * limits::LONGEST_LAXITY as usize;
+    assert_eq!(full, limits::MOST_HELD);
+}
