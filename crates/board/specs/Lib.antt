@@ -5,4 +5,5 @@ pub mod Sound
 pub mod Open
 pub mod Admit
 pub mod Close
+pub mod Lent
 pub mod Tally
