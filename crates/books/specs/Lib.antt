@@ -3,3 +3,4 @@ pub mod Schedule
 pub mod Rule
 pub mod Rival
 pub mod NoRegretRule
+pub mod LeastLastSlot

@@ -39,18 +39,31 @@ unfoldable pub keeps-at : (j d s : ℕ) → List Job → ℕ → Bool
 keeps-at j d s left t =
     not (has (in-date s) left) || has (λ (r : Job). eqb (r .ticket) t) (no-regret-after s d j (select (in-date s) left))
 
--- every closing of the events to come bakes a job of the no-regret set of order j of the rule's own jobs, whenever one is in date
-unfoldable pub KeepsAlong : (j : ℕ) → Rule → ℕ → Beginning → List Event → ℕ → List Job → List Event → Type 0
-KeepsAlong j q d b past s left [] = Unit {0}
-KeepsAlong j q d b past s left (enter t w g ∷ es) = KeepsAlong j q d b (past ++ (enter t w g ∷ [])) s (left ++ (job t s w g ∷ [])) es
-KeepsAlong j q d b past s left (end-slot ∷ es) =
+-- Every closing of the events to come passes the test, which reads the slot, the rule's own jobs left and the ticket that it bakes.
+unfoldable pub EachClosing : (ℕ → List Job → ℕ → Bool) → Rule → ℕ → Beginning → List Event → ℕ → List Job → List Event → Type 0
+EachClosing test q d b past s left [] = Unit {0}
+EachClosing test q d b past s left (enter t w g ∷ es) = EachClosing test q d b (past ++ (enter t w g ∷ [])) s (left ++ (job t s w g ∷ [])) es
+EachClosing test q d b past s left (end-slot ∷ es) =
     let t = valid s left (q d b past) in
-    (keeps-at j d s left t ≡ true) × KeepsAlong j q d b (past ++ (end-slot ∷ [])) (suc s) (without t left) es
+    (test s left t ≡ true) × EachClosing test q d b (past ++ (end-slot ∷ [])) (suc s) (without t left) es
+
+-- every closing bakes a job of the no-regret set of order j of the rule's own jobs, whenever one is in date
+abbrev pub KeepsAlong : (j : ℕ) → Rule → ℕ → Beginning → List Event → ℕ → List Job → List Event → Type 0
+KeepsAlong j q d = EachClosing (keeps-at j d) q d
 
 -- on every book on which rules are tried
 unfoldable pub Keeps : Setting → ℕ → Rule → Type 0
 Keeps S j q =
     (B : Book) → Tried S B → KeepsAlong j q (S .depth) (B .beginning) [] (B .beginning .slot) (B .beginning .jobs) (B .events)
+
+-- where a job is in date, one is baked
+unfoldable pub busy-at : ℕ → List Job → ℕ → Bool
+busy-at s left t = not (has (in-date s) left) || not (eqb t 0)
+
+-- the rule never idles with a job in date
+unfoldable pub Busy : Setting → Rule → Type 0
+Busy S q =
+    (B : Book) → Tried S B → EachClosing busy-at q (S .depth) (B .beginning) [] (B .beginning .slot) (B .beginning .jobs) (B .events)
 
 -- The characterisation: a rule has level j exactly when it keeps to the no-regret sets of order j. Ours has every level.
 pub record Characterised (S : Setting) : Type 0 where

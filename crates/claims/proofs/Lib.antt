@@ -1,6 +1,3 @@
-pub mod ByChoice
-pub mod Extended
-pub mod BakedJob
 pub mod Agreement
 pub mod Drawing
 pub mod Tallying

@@ -9,8 +9,8 @@ use Rattle.books.specs.Schedule.{Schedule, IsSchedule, total}
 use Rattle.books.specs.Rule.{Rule, made-by}
 use Rattle.books.specs.Rival.{Setting, Tried, Rival, Level, NoLarger}
 use Rattle.books.specs.NoRegretRule.{our-rule}
-use Rattle.books.proofs.Plans.{made-schedule}
-use Rattle.books.proofs.Levels.{characterised}
+use Rattle.books.proofs.Schedules.Plans.{made-schedule}
+use Rattle.books.proofs.Levels.Characterised.{characterised}
 use Rattle.board.specs.declared.Board.{Board}
 use Rattle.board.specs.Sound.{sound}
 use Rattle.claims.specs.Calls.{Call}

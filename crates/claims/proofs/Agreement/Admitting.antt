@@ -20,7 +20,7 @@ use Rattle.board.proofs.Soundness.FreePlace.{room}
 use Rattle.board.proofs.Calls.Rows.{Admits, admits}
 use Rattle.board.proofs.Calls.HeldAfter.{held-with-job}
 use Rattle.board.proofs.Calls.SoundAfter.{admit-number-sound, with-job-sound}
-use Rattle.claims.proofs.Extended.{present-entered, highest-entered, jobs-entered}
+use Rattle.books.proofs.Walks.Extended.{present-entered, highest-entered, jobs-entered}
 use Rattle.claims.proofs.Agreement.Agree.{Agree}
 
 module _ (d s : ℕ) (b : Board) (B : Book) (left : List Job) (a : Agree d s b B left) (t w g : ℕ) (e : admit-number b t w g ≡ 0) where

@@ -23,8 +23,8 @@ use Rattle.board.proofs.Soundness.Facts.{admitted-in}
 use Rattle.board.proofs.Soundness.Apart.{facts}
 use Rattle.board.proofs.Calls.HeldAfter.{held-moved-on}
 use Rattle.board.proofs.Calls.SoundAfter.{moved-on-sound}
-use Rattle.claims.proofs.Extended.{present-ended, highest-ended, jobs-ended}
-use Rattle.claims.proofs.BakedJob.{baked-mem}
+use Rattle.books.proofs.Walks.Extended.{present-ended, highest-ended, jobs-ended}
+use Rattle.rule.proofs.NoRegret.Within.{baked-mem}
 use Rattle.claims.proofs.Agreement.Agree.{Agree}
 
 -- the ticket 0 is named where nothing is baked, and no job has it; else the ticket baked is the name of one job in date

@@ -15,7 +15,7 @@ use Rattle.board.specs.Close.{bakes, moved-on}
 use Rattle.claims.specs.Calls.{Call, admit, close, board-after, ticket-named}
 use Rattle.claims.specs.DayBook.{event-of}
 use Rattle.claims.specs.OurPlan.{ends-slot, named}
-use Rattle.claims.proofs.ByChoice.{chosen}
+use Rattle.books.proofs.Walks.ByChoice.{chosen}
 use Rattle.claims.proofs.Agreement.Agree.{Agree}
 use Rattle.claims.proofs.Agreement.Answers.{AdmitTaken, AdmitRefused, CloseTaken, CloseRefused, admit-answers, close-answers}
 use Rattle.claims.proofs.Agreement.Admitting.{agree-admitted}

@@ -16,7 +16,7 @@ use Rattle.claims.specs.Calls.{Call}
 use Rattle.claims.specs.DayBook.{new-book, day-book}
 use Rattle.claims.specs.OurPlan.{named, our-plan}
 use Rattle.claims.specs.Demand3.{book-of}
-use Rattle.claims.proofs.ByChoice.{choices-of-choice}
+use Rattle.books.proofs.Walks.ByChoice.{choices-of-choice}
 use Rattle.claims.proofs.Agreement.Agree.{Agree}
 use Rattle.claims.proofs.Drawing.Added.{added, drawn-added}
 use Rattle.claims.proofs.Drawing.NamedAsChosen.{named-as-chosen}

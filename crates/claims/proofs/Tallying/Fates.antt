@@ -21,7 +21,7 @@ use Rattle.board.proofs.Lists.Once.{count-once}
 use Rattle.board.proofs.Soundness.Facts.{SoundFacts}
 use Rattle.board.proofs.Calls.HeldAfter.{held-moved-on}
 use Rattle.claims.specs.Balance.{on-board}
-use Rattle.claims.proofs.BakedJob.{baked-mem}
+use Rattle.rule.proofs.NoRegret.Within.{baked-mem}
 
 -- of the jobs, those baked and the others
 baked-or-not : (c g : Bool) → one-if g ≡ one-if (c && g) + one-if (not c && g)

@@ -4,14 +4,7 @@ use mathlib.Core.Path.{_≡_, refl, sym}
 use mathlib.Core.Logic.{_⊎_, inl, inr, ⊎-elim}
 use Prim.Native.Nat.{ℕ, suc, _+_, _≤_, _<_}
 use native.Mathlib.Omega.{arith}
-use native.Mathlib.Decide.{decLe}
-
-pub cmp : (a b : ℕ) → (a ≤ b) ⊎ (b < a)
-cmp a b = go (decLe a b)
-  where
-    go : Dec (a ≤ b) → (a ≤ b) ⊎ (b < a)
-    go (yes h) = inl h
-    go (no h) = inr (omega arith)
+pub use Rattle.lists.proofs.Tests.{cmp}
 
 -- what is not above is below, and what is neither is equal
 pub not-above : (a b : ℕ) → ¬ (b < a) → a ≤ b

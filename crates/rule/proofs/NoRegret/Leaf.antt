@@ -1,10 +1,9 @@
 -- A tight job of the list is one that leaves the tree as a tight leaf, and the other way round.
 use mathlib.Core.Path.{_≡_}
-use mathlib.Core.Logic.{⊎-elim}
 use mathlib.Core.List.{List, List·Memᴰ}
 use Prim.Native.Nat.{ℕ, _≤_, _<_}
 use native.Mathlib.Omega.{arith}
-use Rattle.heights.proofs.Heights.Part.{Part, Out, cmp}
+use Rattle.heights.proofs.Heights.Part.{out-unique}
 use Rattle.heights.proofs.Heights.TightSlot.{tight-unique}
 use Rattle.heights.proofs.Trees.Tree.{Tree, OutTree, total-out}
 use Rattle.heights.proofs.Trees.NoRegret.{TightLeaf}
@@ -24,13 +23,6 @@ tight-leaf e now L T p m o =
     let t = tight-mem now (dated now L) (in-date-all now L) m in
     record { slot = tight-last now (dated now L); last = p .last; tight = tree-tight e now L (t .0); out = o; within = t .1 }
 
--- only one last slot leaves
-one-out : {n x y : ℕ} {A B : Part} → Out n x A B → Out n y A B → x ≡ y
-one-out {n} {x} {y} o q = ⊎-elim (λ (h : x ≤ y). ⊎-elim (λ (k : y ≤ x). omega arith) (λ k. absurd (no o q k)) (cmp y x)) (λ k. absurd (no q o k)) (cmp x y)
-  where
-    no : {x y : ℕ} {A B : Part} → Out n x A B → Out n y A B → x < y → ⊥
-    no {x} {y} o q h = omega (arith, o .rest .high y (omega (arith, o .date)) h, q .rest .low y (omega (arith, o .date)) (omega arith))
-
 pub leaf-tight : (e now : ℕ) (L : List Job) (T : Tree e) (p : Job) → List·Memᴰ p L → OutTree e now (p .last) (tree e (items e L)) T (bits e (p .grade))
     → TightLeaf e now (tree e (items e L)) T (bits e (p .grade)) → List·Memᴰ p (tight now (dated now L))
 leaf-tight e now L T p m o g =
@@ -38,5 +30,5 @@ leaf-tight e now L T p m o g =
     let w = bits e (p .grade) in
     let q = total-out e now (p .last) S T w o in
     let d = mem-dated now m (q .date) in
-    let i = one-out q (total-out e now (g .last) S T w (g .out)) in
+    let i = out-unique q (total-out e now (g .last) S T w (g .out)) in
     mem-tight now (dated now L) (in-date-all now L) d (omega (arith, g .within, tight-unique (g .tight) (tree-tight e now L d)))

@@ -16,8 +16,8 @@ use Rattle.rule.proofs.Bits.Number.{number, bits-number}
 use Rattle.rule.proofs.NoRegret.Items.{item, items}
 use Rattle.books.specs.Book.{Event, enter, end-slot, closings}
 use Rattle.books.specs.Rival.{Setting, fit, lifted}
-use Rattle.books.proofs.Groups.{first, later}
-use Rattle.books.proofs.Runs.{groups}
+use Rattle.books.proofs.Walks.Groups.{first, later}
+use Rattle.books.proofs.Runs.AnyRun.{groups}
 
 -- the grades that a setting allows, as bits
 unfoldable pub ok : Setting → Grades

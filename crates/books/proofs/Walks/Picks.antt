@@ -14,7 +14,7 @@ use Rattle.rule.specs.Job.{Job, job, in-date}
 use Rattle.rule.specs.Bake.{ticket-of}
 use Rattle.books.specs.Book.{Beginning, Event, enter, end-slot, entered}
 use Rattle.books.specs.Rule.{Rule, valid, without, choices}
-use Rattle.books.proofs.Tickets.{without-mem}
+use Rattle.books.proofs.Walks.Tickets.{without-mem}
 
 -- the job that a ticket names, if it is left and in date
 unfoldable pub found : ℕ → List Job → ℕ → Option Job

@@ -19,11 +19,11 @@ use Rattle.books.specs.Book.{Beginning, Event, enter, end-slot, Book, cl
 use Rattle.books.specs.Schedule.{Schedule, IsSchedule, gives, baked-in}
 use Rattle.books.specs.Rule.{Rule, valid, without}
 use Rattle.books.specs.Rival.{Setting, lifted, Tried}
-use Rattle.books.proofs.Groups.{closings-append}
-use Rattle.books.proofs.Tickets.{Rising, mem-without, without-mem}
-use Rattle.books.proofs.Left.{Left, enters, ends, left-enter, left-without, begun-left, jobs-rising}
-use Rattle.books.proofs.Picks.{found, Found, Search, search, picks}
-use Rattle.books.proofs.Counts.{passes, tally, tally-none, tally-last, gives-job, picks-on}
+use Rattle.books.proofs.Walks.Groups.{closings-append}
+use Rattle.books.proofs.Walks.Tickets.{Rising, mem-without, without-mem}
+use Rattle.books.proofs.Walks.Left.{Left, enters, ends, left-enter, left-without, begun-left, jobs-rising}
+use Rattle.books.proofs.Walks.Picks.{found, Found, Search, search, picks}
+use Rattle.books.proofs.Schedules.Counts.{passes, tally, tally-none, tally-last, gives-job, picks-on}
 
 -- the rule that follows a schedule
 unfoldable pub following : Schedule → Rule

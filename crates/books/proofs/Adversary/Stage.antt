@@ -12,10 +12,10 @@ use Rattle.books.specs.Book.{Beginning, Event, end-slot, Book, closed, c
 use Rattle.books.specs.Schedule.{baked-in}
 use Rattle.books.specs.Rule.{Rule, valid, without, made-by}
 use Rattle.books.specs.Rival.{Setting, lifted, Tried}
-use Rattle.books.proofs.Groups.{closings-append}
-use Rattle.books.proofs.Picks.{found, picks}
-use Rattle.books.proofs.Counts.{passes, tally, picks-on, baked-tally}
-use Rattle.books.proofs.Positions.{past-after, slot-after, left-after, picks-append, picks-length, lifted-append, lifted-join}
+use Rattle.books.proofs.Walks.Groups.{closings-append}
+use Rattle.books.proofs.Walks.Picks.{found, picks}
+use Rattle.books.proofs.Schedules.Counts.{passes, tally, picks-on, baked-tally}
+use Rattle.books.proofs.Walks.Positions.{past-after, slot-after, left-after, picks-append, picks-length, lifted-append, lifted-join}
 
 -- a list in two parts
 pub tally-append : (test : Job → Bool) (xs ys : List (Option Job)) (i : ℕ) → tally test (xs ++ ys) (length xs + i) ≡ tally test xs (length xs) + tally test ys i

@@ -15,7 +15,7 @@ use Rattle.rule.specs.Job.{Job, job}
 use Rattle.books.specs.Book.{Beginning, Event, enter, end-slot, Book, entered, jobs}
 use Rattle.books.specs.Rule.{without}
 use Rattle.books.specs.Rival.{Setting, fit, lifted, begun, Tried}
-use Rattle.books.proofs.Tickets.{tickets, Rising, rising-nil, rising-cons, rising-lower, rising-above, rising-select, rising-append, without-mem}
+use Rattle.books.proofs.Walks.Tickets.{tickets, Rising, rising-nil, rising-cons, rising-lower, rising-above, rising-select, rising-append, without-mem}
 
 -- an event that enters a job, taken apart
 pub record Enters (S : Setting) (h t w g : ℕ) (es : List Event) : Type 0 where

@@ -19,9 +19,9 @@ use Rattle.rule.proofs.NoRegret.Order.{after-wider}
 use Rattle.rule.proofs.Tight.Counts.{in-date-all}
 use Rattle.books.specs.Rule.{valid}
 use Rattle.books.specs.NoRegretRule.{keeps-at}
-use Rattle.books.proofs.Tickets.{rising-above, one-job}
-use Rattle.books.proofs.Left.{Left}
-use Rattle.books.proofs.Picks.{found, Search, search}
+use Rattle.books.proofs.Walks.Tickets.{rising-above, one-job}
+use Rattle.books.proofs.Walks.Left.{Left}
+use Rattle.books.proofs.Walks.Picks.{found, Search, search}
 
 pub data Kept (j d s : ℕ) (left : List Job) (x : ℕ) : Type 0 where
   idle : has (in-date s) left ≡ false → found s left x ≡ none → Kept j d s left x

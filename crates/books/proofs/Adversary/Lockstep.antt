@@ -9,10 +9,10 @@ use Rattle.rule.specs.Job.{Job, job}
 use Rattle.books.specs.Book.{Beginning, Event, enter, end-slot}
 use Rattle.books.specs.Rule.{Rule, valid, without}
 use Rattle.books.specs.NoRegretRule.{Choice, by-choice}
-use Rattle.books.proofs.ByChoice.{Reached, reached-enter, reached-end, names}
-use Rattle.books.proofs.Picks.{found, picks}
-use Rattle.books.proofs.Positions.{past-after, slot-after, left-after}
-use Rattle.books.proofs.Follow.{follow, before-n}
+use Rattle.books.proofs.Walks.ByChoice.{Reached, reached-enter, reached-end, names}
+use Rattle.books.proofs.Walks.Picks.{found, picks}
+use Rattle.books.proofs.Walks.Positions.{past-after, slot-after, left-after}
+use Rattle.books.proofs.Choices.Follow.{follow, before-n}
 
 module _ (d : ℕ) (b : Beginning) (n : ℕ) (q : Rule) where
   abbrev f : Choice

@@ -10,21 +10,22 @@ use Rattle.heights.proofs.Schedule.NoMore.{no-schedule-more}
 use Rattle.heights.proofs.Schedule.Run.{sum}
 use Rattle.heights.proofs.Trees.Better.{better}
 use Rattle.heights.proofs.Items.Tree.{tree}
-use Rattle.rule.specs.Job.{Job, job}
+use Rattle.rule.specs.Job.{Job}
 use Rattle.rule.specs.Grade.{graded}
 use Rattle.rule.proofs.NoRegret.Items.{items}
-use Rattle.books.specs.Book.{Beginning, Event, enter, end-slot, Book, closed}
+use Rattle.books.specs.Book.{Book, closed}
 use Rattle.books.specs.Schedule.{Schedule, IsSchedule, baked-in, total}
-use Rattle.books.specs.Rule.{Rule, valid, without, made-by}
-use Rattle.books.specs.Rival.{Setting, lifted, Tried, Rival, count-of, NoLarger}
-use Rattle.books.specs.NoRegretRule.{KeepsAlong, Keeps}
-use Rattle.books.proofs.Groups.{first}
-use Rattle.books.proofs.Left.{Left, enters, ends, left-enter, left-without, begun-left}
-use Rattle.books.proofs.Counts.{tally, picks-on, baked-tally}
-use Rattle.books.proofs.Realised.{following, realised}
-use Rattle.books.proofs.Kept.{kept, kept-at, kept-wider}
-use Rattle.books.proofs.Runs.{ones, sum-ones, any-run}
-use Rattle.books.proofs.KeptRuns.{tight-run, tree-run}
+use Rattle.books.specs.Rule.{Rule, made-by}
+use Rattle.books.specs.Rival.{Setting, Tried, Rival, count-of, NoLarger}
+use Rattle.books.specs.NoRegretRule.{keeps-at, Keeps}
+use Rattle.books.proofs.Walks.Groups.{first}
+use Rattle.books.proofs.Walks.Left.{begun-left}
+use Rattle.books.proofs.Walks.Closings.{each-weaker}
+use Rattle.books.proofs.Schedules.Counts.{tally, picks-on, baked-tally}
+use Rattle.books.proofs.Schedules.Realised.{following, realised}
+use Rattle.books.proofs.Runs.Kept.{kept, kept-at, kept-wider}
+use Rattle.books.proofs.Runs.AnyRun.{ones, sum-ones, any-run}
+use Rattle.books.proofs.Runs.KeptRuns.{tight-run, tree-run}
 
 -- no schedule bakes more
 pub keeps-rival : (S : Setting) (q : Rule) → Keeps S 0 q → Rival S q
@@ -65,21 +66,10 @@ keeps-better S j i q r a c B T u e k h =
     )
 
 -- one order less
-keeps-wider-along : (S : Setting) (j : ℕ) (q : Rule) (d : ℕ) (b : Beginning) (past : List Event) (s : ℕ) (left : List Job) (es : List Event) (h : ℕ) → j < d
-    → Left h left → lifted S h es ≡ true → KeepsAlong (suc j) q d b past s left es → KeepsAlong j q d b past s left es
-unfolding KeepsAlong
-keeps-wider-along S j q d b past s left [] h i l e a = tt
-keeps-wider-along S j q d b past s left (enter t w g ∷ es) h i l e a =
-    let n = enters S h t w g es e in
-    keeps-wider-along S j q d b (past ++ (enter t w g ∷ [])) s (left ++ (job t s w g ∷ [])) es t i (left-enter t s w g l (n .above)) (n .later) a
-keeps-wider-along S j q d b past s left (end-slot ∷ es) h i l e a =
-    let x = q d b past in (
-      kept-at j d s left x (kept-wider j d s left x i (kept (suc j) d s h left x l (a .0))),
-      keeps-wider-along S j q d b (past ++ (end-slot ∷ [])) (suc s) (without (valid s left x) left) es h i (left-without (valid s left x) l) (ends S h es e) (a .1),
-    )
-
 pub keeps-wider : (S : Setting) (j : ℕ) (q : Rule) → j < S .depth → Keeps S (suc j) q → Keeps S j q
 unfolding Keeps
 keeps-wider S j q i a B T =
-    keeps-wider-along S j q (S .depth) (B .beginning) [] (B .beginning .slot) (B .beginning .jobs) (B .events) (B .beginning .highest) i
-    (begun-left S (B .beginning) (T .present)) (T .later) (a B T)
+    let d = S .depth in
+    let b = B .beginning in
+    each-weaker S q d b (keeps-at (suc j) d) (keeps-at j d) (λ s h left x l e. kept-at j d s left x (kept-wider j d s left x i (kept (suc j) d s h left x l e))) []
+    (b .slot) (b .jobs) (B .events) (b .highest) (begun-left S b (T .present)) (T .later) (a B T)

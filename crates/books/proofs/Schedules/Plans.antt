@@ -19,10 +19,10 @@ use Rattle.books.specs.Book.{Beginning, Event, enter, end-slot, Book, jo
 use Rattle.books.specs.Schedule.{Schedule, IsSchedule, from-slot}
 use Rattle.books.specs.Rule.{Rule, valid, without, choices, made-by}
 use Rattle.books.specs.Rival.{Setting, fit, lifted, begun, Tried}
-use Rattle.books.proofs.Tickets.{tickets, rising-above, without-mem}
-use Rattle.books.proofs.Left.{Left, enters, ends, left-enter, left-without, entered-rising, begun-left}
-use Rattle.books.proofs.Picks.{found, Found, search, picks, picks-choices, picks-from}
-use Rattle.books.proofs.Counts.{picks-on, getD-map-ticket, getD-mem}
+use Rattle.books.proofs.Walks.Tickets.{tickets, rising-above, without-mem}
+use Rattle.books.proofs.Walks.Left.{Left, enters, ends, left-enter, left-without, entered-rising, begun-left}
+use Rattle.books.proofs.Walks.Picks.{found, Found, search, picks, picks-choices, picks-from}
+use Rattle.books.proofs.Schedules.Counts.{picks-on, getD-map-ticket, getD-mem}
 
 -- a slot that is given a ticket is one of the list's
 pub from-slot-inv : (s : ℕ) (ts : List ℕ) (j : ℕ) → ¬ (from-slot s ts j ≡ 0) → (i : ℕ) × (j ≡ s + i) × (from-slot s ts j ≡ getD ts i 0)

@@ -16,10 +16,10 @@ use Rattle.rule.specs.Job.{Job, job}
 use Rattle.books.specs.Book.{Beginning, Event, enter, end-slot, closings, raised}
 use Rattle.books.specs.Rule.{Rule, valid, without}
 use Rattle.books.specs.Rival.{Setting, fit, lifted, begun}
-use Rattle.books.specs.NoRegretRule.{keeps-at, KeepsAlong}
-use Rattle.books.proofs.Tickets.{tickets, without-mem}
-use Rattle.books.proofs.Left.{Left, enters, ends, left-enter, left-without}
-use Rattle.books.proofs.Picks.{picks}
+use Rattle.books.specs.NoRegretRule.{EachClosing, keeps-at, KeepsAlong}
+use Rattle.books.proofs.Walks.Tickets.{tickets, without-mem}
+use Rattle.books.proofs.Walks.Left.{Left, enters, ends, left-enter, left-without}
+use Rattle.books.proofs.Walks.Picks.{picks}
 
 unfoldable pub past-after : List Event → List Event → List Event
 past-after past [] = past
@@ -48,7 +48,7 @@ module _ (q : Rule) (d : ℕ) (b : Beginning) where
   picks-append past s left [] fs = refl
   picks-append past s left (enter t w g ∷ es) fs = picks-append (past ++ (enter t w g ∷ [])) s (left ++ (job t s w g ∷ [])) es fs
   picks-append past s left (end-slot ∷ es) fs =
-      ap (λ os. Rattle.books.proofs.Picks.found s left (q d b past) ∷ os)
+      ap (λ os. Rattle.books.proofs.Walks.Picks.found s left (q d b past) ∷ os)
       (picks-append (past ++ (end-slot ∷ [])) (suc s) (without (valid s left (q d b past)) left) es fs)
 
   pub picks-length : (past : List Event) (s : ℕ) (left : List Job) (es : List Event) → length (picks q d b past s left es) ≡ closings es
@@ -65,7 +65,7 @@ module _ (q : Rule) (d : ℕ) (b : Beginning) where
 
   pub keeps-point : (j : ℕ) (past : List Event) (s : ℕ) (left : List Job) (pre post : List Event) → KeepsAlong j q d b past s left (pre ++ (end-slot ∷ post))
       → keeps-there j past s left pre ≡ true
-  unfolding KeepsAlong past-after slot-after left-after
+  unfolding EachClosing past-after slot-after left-after
   keeps-point j past s left [] post a = a .0
   keeps-point j past s left (enter t w g ∷ pre) post a = keeps-point j (past ++ (enter t w g ∷ [])) s (left ++ (job t s w g ∷ [])) pre post a
   keeps-point j past s left (end-slot ∷ pre) post a =
@@ -74,12 +74,12 @@ module _ (q : Rule) (d : ℕ) (b : Beginning) where
   -- what it keeps to after a closing, and after some events
   pub keeps-end : (j : ℕ) (past : List Event) (s : ℕ) (left : List Job) (es : List Event) → KeepsAlong j q d b past s left (end-slot ∷ es)
       → KeepsAlong j q d b (past ++ (end-slot ∷ [])) (suc s) (without (valid s left (q d b past)) left) es
-  unfolding KeepsAlong
+  unfolding EachClosing
   keeps-end j past s left es a = a .1
 
   pub keeps-after : (j : ℕ) (past : List Event) (s : ℕ) (left : List Job) (pre post : List Event) → KeepsAlong j q d b past s left (pre ++ post)
       → KeepsAlong j q d b (past-after past pre) (slot-after s pre) (left-after q d b past s left pre) post
-  unfolding KeepsAlong past-after slot-after left-after
+  unfolding EachClosing past-after slot-after left-after
   keeps-after j past s left [] post a = a
   keeps-after j past s left (enter t w g ∷ pre) post a = keeps-after j (past ++ (enter t w g ∷ [])) s (left ++ (job t s w g ∷ [])) pre post a
   keeps-after j past s left (end-slot ∷ pre) post a =
@@ -87,7 +87,7 @@ module _ (q : Rule) (d : ℕ) (b : Beginning) where
 
   pub points-keep : (j : ℕ) (past : List Event) (s : ℕ) (left : List Job) (es : List Event)
       → ((pre post : List Event) → es ≡ pre ++ (end-slot ∷ post) → keeps-there j past s left pre ≡ true) → KeepsAlong j q d b past s left es
-  unfolding KeepsAlong past-after slot-after left-after
+  unfolding EachClosing past-after slot-after left-after
   points-keep j past s left [] f = tt
   points-keep j past s left (enter t w g ∷ es) f =
       points-keep j (past ++ (enter t w g ∷ [])) s (left ++ (job t s w g ∷ [])) es (λ pre post e. f (enter t w g ∷ pre) post (ap (enter t w g ∷_) e))

@@ -4,25 +4,14 @@ use mathlib.Core.List.{List, [], _∷_, _++_, append-nil, append-assoc}
 use Prim.Native.Nat.{ℕ, suc, _+_}
 use native.Mathlib.Omega.{arith}
 use Rattle.rule.specs.Job.{job}
 use Rattle.books.specs.Book.{Event, enter, end-slot, Book, closings, closed, present, entered, jobs, raised, highest, extend}
-
-pub closings-append : (es fs : List Event) → closings (es ++ fs) ≡ closings es + closings fs
-unfolding closings
-closings-append [] fs = omega arith
-closings-append (enter t w g ∷ es) fs = closings-append es fs
-closings-append (end-slot ∷ es) fs = omega (arith, closings-append es fs)
+use Rattle.books.proofs.Walks.Groups.{closings-append, entered-append}
 
 pub raised-append : (h : ℕ) (es fs : List Event) → raised h (es ++ fs) ≡ raised (raised h es) fs
 unfolding raised
 raised-append h [] fs = refl
 raised-append h (enter t w g ∷ es) fs = raised-append t es fs
 raised-append h (end-slot ∷ es) fs = raised-append h es fs
-
-pub entered-append : (s : ℕ) (es fs : List Event) → entered s (es ++ fs) ≡ entered s es ++ entered (s + closings es) fs
-unfolding entered closings
-entered-append s [] fs = ap (λ k. entered k fs) (omega arith)
-entered-append s (enter t w g ∷ es) fs = ap (job t s w g ∷_) (entered-append s es fs)
-entered-append s (end-slot ∷ es) fs = entered-append (suc s) es fs ∙ ap (λ k. entered (suc s) es ++ entered k fs) (omega arith)
 
 module _ (B : Book) where
   pub present-entered : (t w g : ℕ) → present (extend B (enter t w g)) ≡ present B

@@ -13,14 +13,15 @@ use Rattle.books.specs.Schedule.{baked-in}
 use Rattle.books.specs.Rule.{Rule, valid, without, made-by}
 use Rattle.books.specs.Rival.{Setting, lifted, Tried}
 use Rattle.books.specs.NoRegretRule.{Choice, by-choice, our-choice, KeepsAlong}
-use Rattle.books.proofs.ByChoice.{Reached, reached-start, reached-end, names}
-use Rattle.books.proofs.Left.{Left}
-use Rattle.books.proofs.Picks.{found, picks}
-use Rattle.books.proofs.Counts.{passes, tally}
-use Rattle.books.proofs.Positions.{past-after, past-all}
-use Rattle.books.proofs.Follow.{follow, OursAfter, later, here, after-n, ours-from}
-use Rattle.books.proofs.Lockstep.{Locked, lock}
-use Rattle.books.proofs.Stage.{staged, past-at, slot-at, left-at, baked-at, rest-at, picks-before, picks-after, staged-count}
+use Rattle.books.proofs.Walks.ByChoice.{Reached, reached-start, reached-end, names}
+use Rattle.books.proofs.Walks.Left.{Left}
+use Rattle.books.proofs.Walks.Picks.{found, picks}
+use Rattle.books.proofs.Schedules.Counts.{passes, tally}
+use Rattle.books.proofs.Walks.Positions.{past-after, past-all}
+use Rattle.books.proofs.Choices.KeptChoice.{kept-later, kept-from}
+use Rattle.books.proofs.Choices.Follow.{follow, after-n, kept-after-n}
+use Rattle.books.proofs.Adversary.Lockstep.{Locked, lock}
+use Rattle.books.proofs.Adversary.Stage.{staged, past-at, slot-at, left-at, baked-at, rest-at, picks-before, picks-after, staged-count}
 
 module _ (q : Rule) (d : ℕ) (b : Beginning) (pre : List Event) where
   abbrev f : Choice
@@ -48,11 +49,14 @@ module _ (q : Rule) (d : ℕ) (b : Beginning) (pre : List Event) where
   locked : Locked d b (length pre) q [] (b .slot) (b .jobs) pre
   locked = lock d b (length pre) q [] (b .slot) (b .jobs) pre (reached-start f d b) (omega arith)
 
-  from-here : OursAfter f d b past
-  from-here = after-n d b (length pre) q past (let z : length past ≡ length pre = ap length (past-all [] pre) in omega arith)
+  long : length pre ≤ length past
+  long = let z : length past ≡ length pre = ap length (past-all [] pre) in omega arith
+
+  here : f d b past s L ≡ ours-at
+  here = after-n d b (length pre) q past s L long
 
   choice : turned d b past ≡ ours-at
-  choice = names f d b past s L (locked .reached) ∙ here f d b past from-here s L
+  choice = names f d b past s L (locked .reached) ∙ here
 
   abbrev pub turned-after : List Event → List (Option Job)
   turned-after E = picks turned d b (past ++ (end-slot ∷ [])) (suc s) ours-rest E
@@ -78,6 +82,6 @@ module _ (q : Rule) (d : ℕ) (b : Beginning) (pre : List Event) where
   pub turned-keeps : (S : Setting) (j : ℕ) → j ≤ d → (E : List Event) (h : ℕ) → Left h ours-rest → lifted S h E ≡ true
       → KeepsAlong j turned d b (past ++ (end-slot ∷ [])) (suc s) ours-rest E
   turned-keeps S j k E h l e =
-      ours-from S j d b k f (past ++ (end-slot ∷ [])) (suc s) ours-rest E h l e
-      (subst (λ x. Reached f d b (past ++ (end-slot ∷ [])) (suc s) (without (valid s L x) L)) (here f d b past from-here s L) (reached-end f d b past s L (locked .reached)))
-      (later f d b past end-slot from-here)
+      kept-from S j d b f (past ++ (end-slot ∷ [])) (suc s) ours-rest E h l e
+      (subst (λ x. Reached f d b (past ++ (end-slot ∷ [])) (suc s) (without (valid s L x) L)) here (reached-end f d b past s L (locked .reached)))
+      (kept-later past end-slot (kept-after-n j d b (length pre) q past k long))

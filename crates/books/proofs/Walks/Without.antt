@@ -11,7 +11,7 @@ use Rattle.lists.proofs.Members.{select-yes, select-no, select-all}
 use Rattle.rule.specs.Job.{Job}
 use Rattle.rule.proofs.NoRegret.Items.{Less, here, there}
 use Rattle.books.specs.Rule.{without}
-use Rattle.books.proofs.Tickets.{Rising, rising-head, rising-tail, rising-above}
+use Rattle.books.proofs.Walks.Tickets.{Rising, rising-head, rising-tail, rising-above}
 
 -- a ticket that no job has takes nothing away
 pub without-none : (t : ℕ) (L : List Job) → ((x : Job) → List·Memᴰ x L → x .ticket ≡ t → ⊥) → without t L ≡ L

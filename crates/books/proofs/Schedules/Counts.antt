@@ -18,9 +18,9 @@ use Rattle.books.specs.Book.{Book, closed, closings, jobs, entered}
 use Rattle.books.specs.Schedule.{Schedule, gives, baked-in, from-slot}
 use Rattle.books.specs.Rule.{Rule, choices, made-by}
 use Rattle.books.specs.Rival.{Setting, Tried}
-use Rattle.books.proofs.Tickets.{Rising, rising-above, one-job}
-use Rattle.books.proofs.Left.{jobs-rising}
-use Rattle.books.proofs.Picks.{picks, picks-choices, picks-from}
+use Rattle.books.proofs.Walks.Tickets.{Rising, rising-above, one-job}
+use Rattle.books.proofs.Walks.Left.{jobs-rising}
+use Rattle.books.proofs.Walks.Picks.{picks, picks-choices, picks-from}
 
 -- the ticket of each slot
 pub from-slot-at : (s : ℕ) (ts : List ℕ) (i : ℕ) → from-slot s ts (s + i) ≡ getD ts i 0

@@ -4,12 +4,20 @@ use mathlib.Core.List.{List, [], _∷_, _++_, append-assoc, append-nil}
 use Prim.Native.Nat.{ℕ, suc}
 use Rattle.rule.specs.Job.{Job, job}
 use Rattle.books.specs.Book.{Beginning, Event, enter, end-slot}
-use Rattle.books.specs.Rule.{Rule, valid, without}
+use Rattle.books.specs.Rule.{valid, without, choices}
 use Rattle.books.specs.NoRegretRule.{Choice, replay, by-choice}
 
 -- after the events past, the choice f is in slot s with the jobs left
 pub record Reached (f : Choice) (d : ℕ) (b : Beginning) (past : List Event) (s : ℕ) (left : List Job) : Type 0 where
   pub on : (es : List Event) → replay f d b [] (b .slot) (b .jobs) (past ++ es) ≡ replay f d b past s left es
+
+-- the tickets that a choice bakes, one for each closing of the events to come
+unfoldable pub chosen : Choice → ℕ → Beginning → List Event → ℕ → List Job → List Event → List ℕ
+chosen f d b past s left [] = []
+chosen f d b past s left (enter t w g ∷ es) = chosen f d b (past ++ (enter t w g ∷ [])) s (left ++ (job t s w g ∷ [])) es
+chosen f d b past s left (end-slot ∷ es) =
+    let t = valid s left (f d b past s left) in
+    t ∷ chosen f d b (past ++ (end-slot ∷ [])) (suc s) (without t left) es
 
 module _ (f : Choice) (d : ℕ) (b : Beginning) where
   pub reached-start : Reached f d b [] (b .slot) (b .jobs)
@@ -31,3 +39,17 @@ module _ (f : Choice) (d : ℕ) (b : Beginning) where
   pub names : (past : List Event) (s : ℕ) (left : List Job) → Reached f d b past s left → by-choice f d b past ≡ f d b past s left
   unfolding replay by-choice
   names past s left h = ap (replay f d b [] (b .slot) (b .jobs)) (sym (append-nil past)) ∙ h .on []
+
+  choices-chosen : (past : List Event) (s : ℕ) (left : List Job) → Reached f d b past s left → (es : List Event)
+      → choices (by-choice f) d b past s left es ≡ chosen f d b past s left es
+  unfolding choices chosen
+  choices-chosen past s left h [] = refl
+  choices-chosen past s left h (enter t w g ∷ es) = choices-chosen (past ++ (enter t w g ∷ [])) s (left ++ (job t s w g ∷ [])) (reached-enter past s left t w g h) es
+  choices-chosen past s left h (end-slot ∷ es) =
+      ap (λ n. valid s left n ∷ choices (by-choice f) d b (past ++ (end-slot ∷ [])) (suc s) (without (valid s left n) left) es) (names past s left h)
+      ∙ ap (valid s left (f d b past s left) ∷_)
+      (choices-chosen (past ++ (end-slot ∷ [])) (suc s) (without (valid s left (f d b past s left)) left) (reached-end past s left h) es)
+
+  -- along a whole book
+  pub choices-of-choice : (es : List Event) → choices (by-choice f) d b [] (b .slot) (b .jobs) es ≡ chosen f d b [] (b .slot) (b .jobs) es
+  choices-of-choice es = choices-chosen [] (b .slot) (b .jobs) reached-start es

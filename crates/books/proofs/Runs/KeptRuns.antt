@@ -26,14 +26,14 @@ use Rattle.rule.proofs.NoRegret.Start.{starts-one-if}
 use Rattle.books.specs.Book.{Beginning, Event, enter, end-slot}
 use Rattle.books.specs.Rule.{Rule, valid, without}
 use Rattle.books.specs.Rival.{Setting, lifted}
-use Rattle.books.specs.NoRegretRule.{KeepsAlong}
-use Rattle.books.proofs.Groups.{first, later}
-use Rattle.books.proofs.Without.{without-less}
-use Rattle.books.proofs.Left.{Left, enters, ends, left-enter, left-without}
-use Rattle.books.proofs.Picks.{found, picks}
-use Rattle.books.proofs.Counts.{passes, tally, tally-none}
-use Rattle.books.proofs.Kept.{Kept, idle, bake, kept, after-left}
-use Rattle.books.proofs.Runs.{items-append, groups, ones, nothing-baked, found-valid}
+use Rattle.books.specs.NoRegretRule.{EachClosing, KeepsAlong}
+use Rattle.books.proofs.Walks.Groups.{first, later}
+use Rattle.books.proofs.Walks.Without.{without-less}
+use Rattle.books.proofs.Walks.Left.{Left, enters, ends, left-enter, left-without}
+use Rattle.books.proofs.Walks.Picks.{found, picks}
+use Rattle.books.proofs.Schedules.Counts.{passes, tally, tally-none}
+use Rattle.books.proofs.Runs.Kept.{Kept, idle, bake, kept, after-left}
+use Rattle.books.proofs.Runs.AnyRun.{items-append, groups, ones, nothing-baked, found-valid}
 
 -- where no job is in date, the counts are 0
 none-in-date : (d s : ℕ) (left : List Job) → has (in-date s) left ≡ false → count (items d left) s ≡ 0
@@ -72,7 +72,7 @@ module _ (S : Setting) (j : ℕ) (q : Rule) (d : ℕ) (b : Beginning) (k : j ≤
   pub tight-run : (past : List Event) (s : ℕ) (left : List Job) (es : List Event) (h : ℕ) → Left h left → lifted S h es ≡ true
       → KeepsAlong j q d b past s left es
       → TightRun s (part (items d (left ++ first s es))) (parts (groups d (later s es))) (ones (picks q d b past s left es))
-  unfolding first later picks groups ones KeepsAlong
+  unfolding first later picks groups ones EachClosing
   tight-run past s left [] h l e a = stop
   tight-run past s left (enter t w g ∷ es) h l e a =
       let n = enters S h t w g es e in
@@ -117,7 +117,7 @@ module _ (S : Setting) (j : ℕ) (q : Rule) (d : ℕ) (b : Beginning) (k : j ≤
   pub tree-run : (past : List Event) (s : ℕ) (left : List Job) (es : List Event) (h : ℕ) → Left h left → lifted S h es ≡ true
       → KeepsAlong j q d b past s left es → (i : ℕ)
       → Run j d s (tree d (items d (left ++ first s es))) (slots d (groups d (take i (later s es)))) (λ v. tally (graded d v) (picks q d b past s left es) i)
-  unfolding first later picks groups slots KeepsAlong tally adds
+  unfolding first later picks groups slots EachClosing tally adds
   tree-run past s left [] h l e a zero = R.stop (λ v. refl)
   tree-run past s left [] h l e a (suc i) = R.stop (λ v. refl)
   tree-run past s left (enter t w g ∷ es) h l e a i =

@@ -1,0 +1,3 @@
+pub mod OurChoice
+pub mod KeptChoice
+pub mod Follow

@@ -1,0 +1,3 @@
+pub mod Counts
+pub mod Plans
+pub mod Realised

@@ -1,0 +1,9 @@
+pub mod ByChoice
+pub mod Groups
+pub mod Tickets
+pub mod Without
+pub mod Left
+pub mod Picks
+pub mod Positions
+pub mod Closings
+pub mod Extended

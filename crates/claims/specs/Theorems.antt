@@ -1,0 +1,32 @@
+-- All that is proved over the definitions, in one place: the function `theorems` of src/ ensures it.
+use mathlib.Core.Path.{_≡_}
+use mathlib.Core.Bool.{true}
+use Prim.Native.Nat.{ℕ, _<_}
+use Rattle.books.specs.Rule.{Rule}
+use Rattle.books.specs.Rival.{Setting, Rival, Level}
+use Rattle.books.specs.NoRegretRule.{Busy, Characterised}
+use Rattle.books.specs.LeastLastSlot.{least-last-rule, paper-setting}
+use Rattle.board.specs.declared.Board.{Board}
+use Rattle.board.specs.Limits.{most-in-slot, places-held}
+use Rattle.board.specs.Held.{in-slot}
+use Rattle.board.specs.Sound.{sound}
+use Rattle.claims.specs.Calls.{Call, board-after}
+use Rattle.claims.specs.Demand3.{Demand3}
+use Rattle.claims.specs.Balance.{Balance}
+
+pub record Theorems : Type 0 where
+  -- for every list of calls: no plan bakes more, and no rival does better by grade
+  pub demand3 : Demand3
+  -- over every run from an empty board: admitted = baked + given up + on the board, for each grade, and no event is refused
+  pub balance : Balance
+  -- a rule has level j exactly when it keeps to the no-regret sets of order j; ours has every level
+  pub characterised : (S : Setting) → Characterised S
+  -- a rule that idles with a job in date is no rival
+  pub never-idle : (S : Setting) (q : Rule) → Rival S q → Busy S q
+  -- always the least last slot has level 0 and, at depth 1, not level 1
+  pub least-last-level0 : (S : Setting) → Level S 0 least-last-rule
+  pub least-last-not-level1 : ¬ Level (paper-setting 1) 1 least-last-rule
+  -- every call keeps a sound board sound
+  pub sound-kept : (b : Board) (c : Call) → sound b ≡ true → sound (board-after b c) ≡ true
+  -- a sound board with fewer than eight jobs of its slot has a free place
+  pub free-place : (b : Board) → sound b ≡ true → in-slot b < most-in-slot → b .count < places-held
