@@ -23,11 +23,14 @@ pub record Setting : Type 0 where
 unfoldable pub fit : Setting → ℕ → Bool
 fit S g = ltb g (2 ^ S .depth) && S .allowed g
 
--- 'tickets still rise, without end; waits are 1 or more; a slot takes any number of racks and a book any number of slots':
--- the events after the highest ticket h
+-- 'waits are 1 or more'
+unfoldable pub any-laxity : ℕ → Bool
+any-laxity w = leb 1 w
+
+-- 'tickets still rise, without end; [..] a slot takes any number of racks and a book any number of slots': the events after the highest ticket h
 unfoldable pub lifted : Setting → ℕ → List Event → Bool
 lifted S h [] = true
-lifted S h (enter t w g ∷ es) = ltb h t && leb 1 w && fit S g && lifted S t es
+lifted S h (enter t w g ∷ es) = ltb h t && any-laxity w && fit S g && lifted S t es
 lifted S h (end-slot ∷ es) = lifted S h es
 
 -- the jobs at a beginning, if any: tickets rise from 1 to the highest, no grade is unfit, none is of a later slot

@@ -4,5 +4,4 @@ ghost use Rattle.claims.specs.Theorems.{Theorems};
 
 pub fn theorems()
     ensures { λ r. ⌜ Theorems ⌝ }
-{
-}
+{}

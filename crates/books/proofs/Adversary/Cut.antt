@@ -32,11 +32,10 @@ fit-bits S g h =
 pub all-allowed : (S : Setting) (L : List Job) → AllFit S L → Each (Allowed (ok S) (S .depth)) (items (S .depth) L)
 unfolding items Each
 all-allowed S [] f = tt
-all-allowed S (r ∷ L) f =
-    (
-      record { in-set = fit-bits S (r .grade) (f r (List·Memᴰ·head refl)); bits = length-bits (S .depth) (r .grade) },
-      all-allowed S L (λ x m. f x (List·Memᴰ·tail m)),
-    )
+all-allowed S (r ∷ L) f = (
+  record { in-set = fit-bits S (r .grade) (f r (List·Memᴰ·head refl)); bits = length-bits (S .depth) (r .grade) },
+  all-allowed S L (λ x m. f x (List·Memᴰ·tail m)),
+)
 
 module _ (S : Setting) (q : Rule) (b : Beginning) (pre post : List Event) (T : Tried S (staged b pre post)) where
   before : lifted S (b .highest) pre ≡ true

@@ -15,7 +15,7 @@ use Rattle.rule.specs.Grade.{bits}
 use Rattle.rule.proofs.Bits.Number.{number, bits-number}
 use Rattle.rule.proofs.NoRegret.Items.{item, items}
 use Rattle.books.specs.Book.{Event, enter, end-slot, closings}
-use Rattle.books.specs.Rival.{Setting, fit, lifted}
+use Rattle.books.specs.Rival.{Setting, fit, any-laxity, lifted}
 use Rattle.books.proofs.Walks.Groups.{first, later}
 use Rattle.books.proofs.Runs.AnyRun.{groups}
 
@@ -36,12 +36,12 @@ module _ (S : Setting) where
   d = S .depth
 
   enter-lifted : (h s : ℕ) (F : List Item) (es : List Event) → Each (Fit (ok S) d s) F → lifted S (h + length F) es ≡ true → lifted S h (enter-all h s F es) ≡ true
-  unfolding enter-all lifted Each ok
+  unfolding enter-all lifted any-laxity Each ok
   enter-lifted h s [] es f e = subst (λ n. lifted S n es ≡ true) (let z : h + 0 ≡ h = omega arith in z) e
   enter-lifted h s (p ∷ F) es f e =
-      and-intro (ltb h (suc h) && leb 1 (p .last + 1 - s) && fit S (number (p .grade))) (lifted S (suc h) (enter-all (suc h) s F es))
-      (and-intro (ltb h (suc h) && leb 1 (p .last + 1 - s)) (fit S (number (p .grade)))
-      (and-intro (ltb h (suc h)) (leb 1 (p .last + 1 - s)) (lt-ltb h (suc h) (omega arith)) (le-leb 1 (p .last + 1 - s) (omega (arith, f .0 .date))))
+      and-intro (ltb h (suc h) && any-laxity (p .last + 1 - s) && fit S (number (p .grade))) (lifted S (suc h) (enter-all (suc h) s F es))
+      (and-intro (ltb h (suc h) && any-laxity (p .last + 1 - s)) (fit S (number (p .grade)))
+      (and-intro (ltb h (suc h)) (any-laxity (p .last + 1 - s)) (lt-ltb h (suc h) (omega arith)) (le-leb 1 (p .last + 1 - s) (omega (arith, f .0 .date))))
       (f .0 .allowed .in-set))
       (enter-lifted (suc h) s F es (f .1) (subst (λ n. lifted S n es ≡ true) (let z : h + suc (length F) ≡ suc h + length F = omega arith in z) e))
 

@@ -26,7 +26,7 @@ use Rattle.books.proofs.Runs.KeptRuns.{tree-run}
 use Rattle.books.proofs.Adversary.Future.{ok, future, future-lifted, future-first, future-later}
 
 module _ (S : Setting) (b : Beginning) (past : List Event) (s h : ℕ) (F : List Item) (fs : List (List Item)) (ff : Each (Fit (ok S) (S .depth) s) F)
-  (fl : AllFit (ok S) (S .depth) (suc s) fs) where
+    (fl : AllFit (ok S) (S .depth) (suc s) fs) where
   abbrev d : ℕ
   d = S .depth
 
@@ -39,7 +39,7 @@ module _ (S : Setting) (b : Beginning) (past : List Event) (s h : ℕ) (F : List
       let n = closings E in
       let all : take n (later s E) ≡ later s E = ap (λ m. take m (later s E)) (sym (later-length s E)) ∙ take-length (later s E) in
       let together : items d (K ++ first s E) ≡ items d K ++ F =
-          items-append d K (first s E) ∙ ap (λ (X : List Item). items d K ++ X) (future-first S h s F fs ff)
+      items-append d K (first s E) ∙ ap (λ (X : List Item). items d K ++ X) (future-first S h s F fs ff)
       in
       run-same (same-tree-sym d s (tree d (items d K ++ F)) (join-tree d (tree d (items d K)) (tree d F)) (tree-append d s (items d K) F))
       (subst₂ (λ X Y. Run i d s (tree d X) (slots d Y) (λ v. tally (graded d v) (picks r d b past s K E) n)) together

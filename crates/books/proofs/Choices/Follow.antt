@@ -33,8 +33,8 @@ pub kept-after-n : (j d : ℕ) (b : Beginning) (n : ℕ) (q : Rule) (past : List
 kept-after-n j d b n q past k i =
     record {
       at =
-        λ more t h L l.
-        subst (Kept j d t L) (sym (after-n d b n q (past ++ more) t L (omega (arith, length-append past more)))) (ours-kept j d b (past ++ more) t h L k l);
+          λ more t h L l.
+          subst (Kept j d t L) (sym (after-n d b n q (past ++ more) t L (omega (arith, length-append past more)))) (ours-kept j d b (past ++ more) t h L k l);
     }
 
 pub before-n : (d : ℕ) (b : Beginning) (n : ℕ) (q : Rule) (past : List Event) (s : ℕ) (left : List Job) → length past < n → follow n q d b past s left ≡ q d b past

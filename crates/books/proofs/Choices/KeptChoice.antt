@@ -36,12 +36,11 @@ module _ (S : Setting) (j d : ℕ) (b : Beginning) (f : Choice) where
       (kept-later past (enter t w g) k)
   kept-from past s left (end-slot ∷ es) h l e r k =
       let x = by-choice f d b past in
-      let same = names f d b past s left r in
-      (
+      let same = names f d b past s left r in (
         kept-at j d s left x (subst (Kept j d s left) (sym same) (kept-here past k s h left l)),
         kept-from (past ++ (end-slot ∷ [])) (suc s) (without (valid s left x) left) es h (left-without (valid s left x) l) (ends S h es e)
-        (subst (λ y. Reached f d b (past ++ (end-slot ∷ [])) (suc s) (without (valid s left y) left)) (sym same) (reached-end f d b past s left r))
-        (kept-later past end-slot k),
+            (subst (λ y. Reached f d b (past ++ (end-slot ∷ [])) (suc s) (without (valid s left y) left)) (sym same) (reached-end f d b past s left r))
+            (kept-later past end-slot k),
       )
 
 -- a choice that keeps at every closing of every book

@@ -68,4 +68,3 @@ ours-kept j d b past s h left k l = go (baked s d A) refl
         let n = after-down s d (d - j) j A (in-date-all s left) (omega arith) (subst (λ x. List·Memᴰ p (no-regret-after s d x A)) (sym i) m) in
         let f = after-left j d s left n in
         subst (λ (o : Option Job). Kept j d s left (ticket-of o)) (sym e) (bake p n (finds l (f .0) (f .1)))
-

@@ -18,7 +18,7 @@ use Rattle.rule.proofs.Tight.Counts.{AllInDate, in-date-all, part, part-at, fal
 use Rattle.rule.proofs.Tight.Slot.{tight-last, tight-last-is, mem-tight}
 use Rattle.books.specs.Book.{Beginning, Event, enter, end-slot, Book}
 use Rattle.books.specs.Rule.{valid, without}
-use Rattle.books.specs.Rival.{Setting, fit, lifted, begun, Tried, Level}
+use Rattle.books.specs.Rival.{Setting, fit, any-laxity, lifted, begun, Tried, Level}
 use Rattle.books.specs.NoRegretRule.{by-choice, replay, keeps-at, EachClosing, Keeps}
 use Rattle.books.specs.LeastLastSlot.{least-last-choice, least-last-rule, paper-setting}
 use Rattle.books.proofs.Walks.Left.{Left}
@@ -60,7 +60,7 @@ board-4 : Book
 board-4 = record { beginning = record { slot = 1; highest = 0; jobs = [] }; events = enter 1 1 1 ∷ enter 2 2 1 ∷ enter 3 2 0 ∷ end-slot ∷ [] }
 
 tried-4 : Tried (paper-setting 1) board-4
-unfolding board-4 paper-setting lifted begun fit rise every
+unfolding board-4 paper-setting lifted any-laxity begun fit rise every
 tried-4 = record { beginning = refl; present = refl; later = refl }
 
 -- it bakes the 1/1 there, which is not of order 1

@@ -24,7 +24,7 @@ use Rattle.books.proofs.Adversary.Cut.{cut-left}
 use Rattle.books.proofs.Levels.Outside.{UnbeatenByFollowers, outside}
 
 module _ (S : Setting) (j : ℕ) (jd : j < S .depth) (q : Rule) (a : Keeps S j q) (unbeaten : UnbeatenByFollowers S j q) (b : Beginning)
-  (pre post : List Event) (T : Tried S (staged b pre post)) where
+    (pre post : List Event) (T : Tried S (staged b pre post)) where
   abbrev d : ℕ
   d = S .depth
 

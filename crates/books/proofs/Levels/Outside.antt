@@ -49,7 +49,7 @@ UnbeatenByFollowers S j q =
     (B : Book) → Tried S B → (n : ℕ) → NoLarger S j B (made-by (by-choice (follow n q)) (S .depth) B) (made-by q (S .depth) B)
 
 module _ (S : Setting) (j : ℕ) (jd : j < S .depth) (q : Rule) (a : Keeps S j q) (unbeaten : UnbeatenByFollowers S j q) (b : Beginning)
-  (pre post : List Event) (T : Tried S (staged b pre post)) where
+    (pre post : List Event) (T : Tried S (staged b pre post)) where
   abbrev d : ℕ
   d = S .depth
 

@@ -14,28 +14,26 @@ use Rattle.lists.proofs.Members.{every-mem}
 use Rattle.rule.specs.Job.{Job, job}
 use Rattle.books.specs.Book.{Beginning, Event, enter, end-slot, Book, entered, jobs}
 use Rattle.books.specs.Rule.{without}
-use Rattle.books.specs.Rival.{Setting, fit, lifted, begun, Tried}
+use Rattle.books.specs.Rival.{Setting, fit, any-laxity, lifted, begun, Tried}
 use Rattle.books.proofs.Walks.Tickets.{tickets, Rising, rising-nil, rising-cons, rising-lower, rising-above, rising-select, rising-append, without-mem}
 
 -- an event that enters a job, taken apart
-pub record Enters (S : Setting) (h t w g : ℕ) (es : List Event) : Type 0 where
+pub record Enters (S : Setting) (h t g : ℕ) (es : List Event) : Type 0 where
   pub above : h < t
-  pub waits : 1 ≤ w
   pub fits : fit S g ≡ true
   pub later : lifted S t es ≡ true
 
-pub enters : (S : Setting) (h t w g : ℕ) (es : List Event) → lifted S h (enter t w g ∷ es) ≡ true → Enters S h t w g es
+pub enters : (S : Setting) (h t w g : ℕ) (es : List Event) → lifted S h (enter t w g ∷ es) ≡ true → Enters S h t g es
 unfolding lifted
 enters S h t w g es e =
     let a = ltb h t in
-    let b = leb 1 w in
+    let b = any-laxity w in
     let c = fit S g in
     let r = lifted S t es in
     let abc = and-left (a && b && c) r e in
     let ab = and-left (a && b) c abc in
     record {
       above = ltb-true h t (and-left a b ab);
-      waits = leb-true 1 w (and-right a b ab);
       fits = and-right (a && b) c abc;
       later = and-right (a && b && c) r e;
     }

@@ -15,7 +15,7 @@ use Rattle.lists.proofs.Members.{every-mem}
 use Rattle.rule.specs.Job.{Job, job}
 use Rattle.books.specs.Book.{Beginning, Event, enter, end-slot, closings, raised}
 use Rattle.books.specs.Rule.{Rule, valid, without}
-use Rattle.books.specs.Rival.{Setting, fit, lifted, begun}
+use Rattle.books.specs.Rival.{Setting, fit, any-laxity, lifted, begun}
 use Rattle.books.specs.NoRegretRule.{EachClosing, keeps-at, KeepsAlong}
 use Rattle.books.proofs.Walks.Tickets.{tickets, without-mem}
 use Rattle.books.proofs.Walks.Left.{Left, enters, ends, left-enter, left-without}
@@ -115,7 +115,7 @@ pub lifted-append : (S : Setting) (h : ℕ) (es fs : List Event) → lifted S h 
 unfolding lifted raised
 lifted-append S h [] fs e = (refl, e)
 lifted-append S h (enter t w g ∷ es) fs e =
-    let a = ltb h t && leb 1 w && fit S g in
+    let a = ltb h t && any-laxity w && fit S g in
     let r = lifted-append S t es fs (and-right a (lifted S t (es ++ fs)) e) in
     (and-intro a (lifted S t es) (and-left a (lifted S t (es ++ fs)) e) (r .0), r .1)
 lifted-append S h (end-slot ∷ es) fs e = lifted-append S h es fs e
@@ -124,7 +124,7 @@ pub lifted-join : (S : Setting) (h : ℕ) (es fs : List Event) → lifted S h es
 unfolding lifted raised
 lifted-join S h [] fs e f = f
 lifted-join S h (enter t w g ∷ es) fs e f =
-    let a = ltb h t && leb 1 w && fit S g in
+    let a = ltb h t && any-laxity w && fit S g in
     and-intro a (lifted S t (es ++ fs)) (and-left a (lifted S t es) e) (lifted-join S t es fs (and-right a (lifted S t es) e) f)
 lifted-join S h (end-slot ∷ es) fs e f = lifted-join S h es fs e f
 

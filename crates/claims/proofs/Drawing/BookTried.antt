@@ -10,35 +10,27 @@ use Rattle.lists.specs.Select.{every}
 use Rattle.lists.specs.Rise.{rise}
 use Rattle.lists.proofs.Tests.{test, and-left, and-right, and-intro}
 use Rattle.books.specs.Book.{Beginning, Event, enter, end-slot, Book, present, raised, highest, extend}
-use Rattle.books.specs.Rival.{Setting, fit, lifted, begun, Tried}
+use Rattle.books.specs.Rival.{Setting, fit, lifted, begun, Tried, any-laxity}
 use Rattle.board.specs.declared.Board.{Board}
 use Rattle.board.proofs.Calls.Rows.{admits}
 use Rattle.claims.specs.Calls.{Call, admit, close}
 use Rattle.claims.specs.DayBook.{new-book, entered-now, lets-through, event-of, book-after, drawn, day-book}
 use Rattle.claims.specs.Demand3.{setting, book-of}
+use Rattle.books.proofs.Walks.Positions.{lifted-join}
 use Rattle.claims.proofs.Drawing.Added.{book-through, book-stopped}
 use Rattle.claims.proofs.Drawing.PlanOfOurRule.{first-book, book-added}
-
--- events that go on from the highest ticket
-lifted-append : (S : Setting) (h : ℕ) (es fs : List Event) → lifted S h es ≡ true → lifted S (raised h es) fs ≡ true → lifted S h (es ++ fs) ≡ true
-unfolding lifted raised
-lifted-append S h [] fs k l = l
-lifted-append S h (enter t w g ∷ es) fs k l =
-    let here = ltb h t && leb 1 w && fit S g in
-    and-intro here (lifted S t (es ++ fs)) (and-left here (lifted S t es) k) (lifted-append S t es fs (and-right here (lifted S t es) k) l)
-lifted-append S h (end-slot ∷ es) fs k l = lifted-append S h es fs k l
 
 module _ (b : Board) (begins : Beginning → Bool) where
   Lifted : Book → Type 0
   Lifted B = lifted (setting b begins) (B .beginning .highest) (B .events) ≡ true
 
   entered-lifted : (B : Book) (t w g : ℕ) → lets-through (b .depth) B (admit t w g) ≡ true → lifted (setting b begins) (highest B) (enter t w g ∷ []) ≡ true
-  unfolding lets-through lifted fit setting
+  unfolding lets-through lifted any-laxity fit setting
   entered-lifted B t w g h =
       let r = admits (present B) (highest B) (entered-now B) (b .depth) t w g (eqb-true _ 0 h) in
-      and-intro (ltb (highest B) t && leb 1 w && (ltb g (2 ^ b .depth) && true)) true
-      (and-intro (ltb (highest B) t && leb 1 w) (ltb g (2 ^ b .depth) && true)
-      (and-intro (ltb (highest B) t) (leb 1 w) (lt-ltb (highest B) t (r .above)) (le-leb 1 w (r .some-laxity)))
+      and-intro (ltb (highest B) t && any-laxity w && (ltb g (2 ^ b .depth) && true)) true
+      (and-intro (ltb (highest B) t && any-laxity w) (ltb g (2 ^ b .depth) && true)
+      (and-intro (ltb (highest B) t) (any-laxity w) (lt-ltb (highest B) t (r .above)) (le-leb 1 w (r .some-laxity)))
       (and-intro (ltb g (2 ^ b .depth)) true (lt-ltb g (2 ^ b .depth) (r .graded)) refl))
       refl
 
@@ -54,7 +46,7 @@ module _ (b : Board) (begins : Beginning → Bool) where
       go : (lets-through (b .depth) B c ≡ true) ⊎ (lets-through (b .depth) B c ≡ false) → Lifted (book-after (b .depth) B c)
       go (inl h) =
           subst Lifted (sym (book-through (b .depth) B c h))
-          (lifted-append (setting b begins) (B .beginning .highest) (B .events) (event-of c ∷ []) l (event-lifted B c h))
+          (lifted-join (setting b begins) (B .beginning .highest) (B .events) (event-of c ∷ []) l (event-lifted B c h))
       go (inr h) = subst Lifted (sym (book-stopped (b .depth) B c h)) l
 
   drawn-lifted : (B : Book) (cs : List Call) → Lifted B → Lifted (drawn (b .depth) B cs)
