@@ -3,3 +3,5 @@ pub mod Fields
 pub mod Reading
 pub mod Printing
 pub mod Session
+pub mod Machine
+pub mod NeverMet
