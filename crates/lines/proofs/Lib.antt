@@ -1,3 +1,4 @@
 pub mod Cutting
 pub mod LongLines
 pub mod ByteByByte
+pub mod NeverMet

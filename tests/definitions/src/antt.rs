@@ -52,11 +52,15 @@ pub fn unfoldable_names(crates: &Path) -> io::Result<String> {
 
 fn modules(folder: &Path) -> io::Result<Vec<String>> {
     let root = fs::read_to_string(folder.join("Lib.antt"))?;
-    let names = root.lines().filter_map(|line| line.strip_prefix("pub mod "));
+    let names = root
+        .lines()
+        .filter_map(|line| line.strip_prefix("pub mod "));
     Ok(names.map(|name| name.trim().to_string()).collect())
 }
 
 fn marked(text: &str) -> impl Iterator<Item = &str> {
-    let signatures = text.lines().filter_map(|line| line.strip_prefix("unfoldable pub "));
+    let signatures = text
+        .lines()
+        .filter_map(|line| line.strip_prefix("unfoldable pub "));
     signatures.filter_map(|rest| rest.split_whitespace().next())
 }

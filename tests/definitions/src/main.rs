@@ -20,7 +20,11 @@ const IN_MODULE: usize = 20;
 
 fn main() -> io::Result<()> {
     let words: Vec<String> = env::args().skip(1).collect();
-    let numbers: Vec<u64> = words.iter().skip(1).filter_map(|word| word.parse().ok()).collect();
+    let numbers: Vec<u64> = words
+        .iter()
+        .skip(1)
+        .filter_map(|word| word.parse().ok())
+        .collect();
     if words.len() != 3 || numbers.len() != 2 {
         eprintln!("use: definitions CRATES COUNT SEED");
         process::exit(2);
@@ -42,7 +46,10 @@ fn write_modules(crates: &Path, cases: &[String]) -> io::Result<()> {
     let mut root = fs::read_to_string(proofs.join("Lib.antt"))?;
     for (number, part) in cases.chunks(IN_MODULE).enumerate() {
         let name = format!("Cases{number}");
-        fs::write(proofs.join(format!("{name}.antt")), antt::module(part, &unfolding))?;
+        fs::write(
+            proofs.join(format!("{name}.antt")),
+            antt::module(part, &unfolding),
+        )?;
         root.push_str(&format!("pub mod {name}\n"));
     }
     fs::write(proofs.join("Lib.antt"), root)

@@ -23,7 +23,10 @@ fn arguments(piece: &str) -> String {
 }
 
 fn places(pieces: &[&str]) -> String {
-    let places: Vec<String> = pieces.iter().map(|piece| format!("place {}", arguments(piece))).collect();
+    let places: Vec<String> = pieces
+        .iter()
+        .map(|piece| format!("place {}", arguments(piece)))
+        .collect();
     list(&places)
 }
 
@@ -34,7 +37,11 @@ fn soundness(line: &str) -> String {
     let sound = head[0] == 1;
     format!(
         "sound-right (board {} {} {} {} {}) {sound}",
-        head[1], head[2], head[3], head[4], places(&pieces[1..])
+        head[1],
+        head[2],
+        head[3],
+        head[4],
+        places(&pieces[1..])
     )
 }
 
@@ -44,11 +51,18 @@ fn closing(line: &str) -> String {
     let asked: Vec<&str> = asked.split(';').collect();
     let told: Vec<&str> = told.split(';').collect();
     let baked = numbers(told[0]);
-    let gone: Vec<String> = told[1..].iter().map(|piece| list(&numbers(piece))).collect();
+    let gone: Vec<String> = told[1..]
+        .iter()
+        .map(|piece| list(&numbers(piece)))
+        .collect();
     let answer = [0, baked[0], baked[1], gone.len() as u64];
     format!(
         "close-right (board {} {} {}) {} {}",
-        arguments(asked[0]), asked.len() - 1, places(&asked[1..]), list(&answer), list(&gone)
+        arguments(asked[0]),
+        asked.len() - 1,
+        places(&asked[1..]),
+        list(&answer),
+        list(&gone)
     )
 }
 
@@ -58,10 +72,23 @@ fn calls(line: &str) -> String {
     let (told, most) = told.split_once('|').expect("a bar");
     let asked: Vec<&str> = asked.split(';').collect();
     let calls: Vec<String> = asked[1..].iter().map(|piece| call(piece)).collect();
-    let told: Vec<&str> = told.split(';').filter(|piece| !piece.trim().is_empty()).collect();
-    let answers: Vec<String> = asked[1..].iter().zip(told).map(|(call, told)| answer(call, told)).collect();
+    let told: Vec<&str> = told
+        .split(';')
+        .filter(|piece| !piece.trim().is_empty())
+        .collect();
+    let answers: Vec<String> = asked[1..]
+        .iter()
+        .zip(told)
+        .map(|(call, told)| answer(call, told))
+        .collect();
     assert_eq!(calls.len(), answers.len(), "an answer a call");
-    format!("book-right {} {} {} {}", arguments(asked[0]), list(&calls), list(&answers), list(&numbers(most)))
+    format!(
+        "book-right {} {} {} {}",
+        arguments(asked[0]),
+        list(&calls),
+        list(&answers),
+        list(&numbers(most))
+    )
 }
 
 fn call(piece: &str) -> String {
