@@ -28,3 +28,13 @@ pub record Listed (A : List Job) (before after : Lent) : Type 0 where
 unfoldable pub LentAfter : (refusal : ℕ) → List Job → Lent → Lent → Type 0
 LentAfter zero A before after = Listed A before after
 LentAfter (suc n) A before after = after ≡ before
+
+-- The same with the jobs in the order of A: what our code does, inside. Its callers are promised `LentAfter`, which leaves the order open.
+pub record InOrder (A : List Job) (before after : Lent) : Type 0 where
+  pub tickets : after .tickets ≡ map (λ (r : Job). r .ticket) A ++ drop (length A) (before .tickets)
+  pub grades : after .grades ≡ map (λ (r : Job). r .grade) A ++ drop (length A) (before .grades)
+  pub slots : after .slots ≡ map (λ (r : Job). r .admitted) A ++ drop (length A) (before .slots)
+
+unfoldable pub LentInOrder : (refusal : ℕ) → List Job → Lent → Lent → Type 0
+LentInOrder zero A before after = InOrder A before after
+LentInOrder (suc n) A before after = after ≡ before

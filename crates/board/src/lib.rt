@@ -1,6 +1,7 @@
 // The board: its types and its four limits. What each call answers and leaves behind is defined in specs/.
 ghost use mathlib.Core.Path.{_≡_};
-ghost use Rattle.board.specs.Limits.{longest-laxity, most-in-slot, places-held, last-slot};
+ghost use Rattle.board.specs.Limits.{longest-laxity, most-in-slot, places-held, last-slot, deepest};
+ghost use Rattle.board.specs.Open.{opened};
 
 // A number of slots counted from the present one: 01's wait, 000's laxity.
 #[repr(C)]
@@ -41,6 +42,35 @@ impl Board {
 
     // Last slot of a book.
     pub const LAST_SLOT: u32 = 1_000_000;
+
+    // Greatest depth.
+    pub const DEEPEST: u32 = 3;
+
+    // A new board of this depth; refusal 1 and a board all zero where the depth is above 3.
+    pub fn open(depth: u32) -> Opened
+        ensures { λ r. ⌜ r ≡ opened depth ⌝ }
+    {
+        let blank = Place {
+            ticket: 0,
+            admitted: Slot(0),
+            last: Slot(0),
+            grade: 0,
+        };
+        let places = [blank; Board::PLACES];
+        let mut board = Board {
+            depth: 0,
+            slot: Slot(0),
+            highest: 0,
+            count: 0,
+            places,
+        };
+        if Board::DEEPEST < depth {
+            return Opened { refusal: 1, board };
+        }
+        board.depth = depth as u8;
+        board.slot.0 = 1;
+        Opened { refusal: 0, board }
+    }
 }
 
 // What opening answers. Every answer has 01's number of a refusal, or 0.
@@ -87,4 +117,5 @@ fn limits()
     ensures { λ r. do ⌜ (← ⟦Board::MOST_IN_SLOT⟧ .entry) ≡ most-in-slot ⌝ }
     ensures { λ r. do ⌜ (← ⟦Board::PLACES⟧ .entry) ≡ places-held ⌝ }
     ensures { λ r. do ⌜ (← ⟦Board::LAST_SLOT⟧ .entry) ≡ last-slot ⌝ }
+    ensures { λ r. do ⌜ (← ⟦Board::DEEPEST⟧ .entry) ≡ deepest ⌝ }
 {}
