@@ -1,0 +1,3 @@
+pub mod InSlot
+pub mod LetThrough
+pub mod ByNumber

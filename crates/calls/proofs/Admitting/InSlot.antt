@@ -1,0 +1,82 @@
+-- Counting the jobs of a sound board's slot from the board's end.
+use mathlib.Core.Path.{_≡_, refl, ap, _∙_}
+use mathlib.Core.Bool.{true}
+use mathlib.Core.List.{List, [], _∷_, map, List·Memᴰ, List·Memᴰ·head, List·Memᴰ·tail}
+use Prim.Native.Nat.{ℕ, zero, suc, _≤_, _<_}
+use native.Mathlib.Omega.{arith}
+use lib.Dec.{leb, eqb}
+use lib.ListN.{length, getD, take, List·getD-map}
+use lib.Seq.{take-all, take-suc, getD-take}
+use borrow.Author.Tests.{leb-true, eq-eqb, ne-eqb}
+use Rattle.lists.specs.Select.{how-many}
+use Rattle.lists.specs.Rise.{never-fall}
+use Rattle.lists.proofs.Tests.{and-left, and-right}
+use Rattle.lists.proofs.Counting.{one-if-yes, one-if-no, count-append}
+use Rattle.rule.specs.Job.{Job}
+use Rattle.board.specs.declared.Board.{Board}
+use Rattle.board.specs.Held.{blank, job-in, used, held, in-slot}
+use Rattle.board.specs.Sound.{sound}
+use Rattle.board.proofs.Soundness.Facts.{admitted-in}
+use Rattle.board.proofs.Soundness.Apart.{facts}
+use Rattle.board.proofs.Soundness.HeldCount.{held-count}
+
+member-at : {A : Type 0} (k : ℕ) (d : A) (l : List A) → k < length l → List·Memᴰ (getD l k d) l
+member-at k d [] h = absurd (omega arith)
+member-at zero d (a ∷ l) h = List·Memᴰ·head refl
+member-at (suc k) d (a ∷ l) h = List·Memᴰ·tail (member-at k d l (omega arith))
+
+-- where admitted slots never fall, a job admitted before a slot has only such jobs before it
+before : (m k now : ℕ) (d : Job) (A : List Job) → never-fall m (map (λ (r : Job). r .admitted) A) ≡ true → k < length A → getD A k d .admitted < now
+    → (m ≤ getD A k d .admitted) × (admitted-in now (take (suc k) A) ≡ 0)
+unfolding never-fall how-many
+before m k now d [] h i j = absurd (omega arith)
+before m zero now d (a ∷ A) h i j =
+    (leb-true m (a .admitted) (and-left (leb m (a .admitted)) _ h), omega (arith, one-if-no (eqb (a .admitted) now) (ne-eqb (a .admitted) now (omega arith))))
+before m (suc k) now d (a ∷ A) h i j =
+    let r = before (a .admitted) k now d A (and-right (leb m (a .admitted)) _ h) (omega arith) j in
+    let first : m ≤ a .admitted = leb-true m (a .admitted) (and-left (leb m (a .admitted)) _ h) in
+    (omega (arith, r .0), omega (arith, r .0, r .1, one-if-no (eqb (a .admitted) now) (ne-eqb (a .admitted) now (omega (arith, r .0)))))
+
+-- the jobs of the board's slot in its first n places
+abbrev pub in-first : Board → ℕ → ℕ
+in-first b n = admitted-in (b .slot .0) (take n (held b))
+
+pub in-none : (b : Board) → in-first b 0 ≡ 0
+unfolding how-many
+in-none b = refl
+
+module _ (b : Board) (s : sound b ≡ true) where
+  jobs : length (held b) ≡ b .count
+  jobs = let f = facts b s in held-count b (omega (arith, f .full, f .counted))
+
+  job-at : (k : ℕ) → k < b .count → getD (held b) k (job-in blank) ≡ job-in (getD (b .places) k blank)
+  unfolding held used
+  job-at k h = List·getD-map job-in (used b) k blank ∙ ap job-in (getD-take (b .count) (b .places) k blank h)
+
+  pub in-all : in-first b (b .count) ≡ in-slot b
+  unfolding in-slot
+  in-all = ap (admitted-in (b .slot .0)) (take-all (b .count) (held b) (omega (arith, jobs)))
+
+  -- one place more, with a job of the slot
+  pub in-more : (k : ℕ) → k < b .count → getD (b .places) k blank .admitted .0 ≡ b .slot .0 → in-first b (suc k) ≡ suc (in-first b k)
+  unfolding how-many job-in
+  in-more k h e =
+      let r = getD (held b) k (job-in blank) in
+      let now : r .admitted ≡ b .slot .0 = ap (λ (q : Job). q .admitted) (job-at k h) ∙ e in
+      omega (
+        arith,
+        ap (admitted-in (b .slot .0)) (take-suc (held b) k (job-in blank) (omega (arith, jobs))),
+        count-append (λ (q : Job). eqb (q .admitted) (b .slot .0)) (take k (held b)) (r ∷ []),
+        one-if-yes (eqb (r .admitted) (b .slot .0)) (eq-eqb (r .admitted) (b .slot .0) now),
+      )
+
+  -- a job of another slot, and none of the slot before it
+  pub in-no-more : (k : ℕ) → k < b .count → (getD (b .places) k blank .admitted .0 ≡ b .slot .0 → ⊥) → in-first b (suc k) ≡ 0
+  unfolding job-in
+  in-no-more k h e =
+      let f = facts b s in
+      let r = getD (held b) k (job-in blank) in
+      let then : r .admitted ≡ getD (b .places) k blank .admitted .0 = ap (λ (q : Job). q .admitted) (job-at k h) in
+      let inside : k < length (held b) = omega (arith, jobs) in
+      let begun : r .admitted ≤ b .slot .0 = f .each r (member-at k (job-in blank) (held b) inside) .begun in
+      before 1 k (b .slot .0) (job-in blank) (held b) (f .slots-in-order) inside (omega arith) .1

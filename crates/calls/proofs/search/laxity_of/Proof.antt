@@ -1,0 +1,20 @@
+-- `search::laxity_of`: the slots from the present one to the last. Assumes nothing.
+use borrow.Author.Needs.{needs}
+use native.Mathlib.Omega.{arith}
+use Rattle.rule.specs.Job.{laxity}
+use Rattle.board.specs.Held.{job-in}
+use Rattle.calls.proofs.search.laxity_of.Statement.{statement}
+use Rattle.calls.proofs.search.laxity_of.Tie as tie
+
+sub-t3 : tie.Need-sub-t3
+sub-t3 c = search needs
+
+add-t4 : tie.Need-add-t4
+add-t4 c = search needs
+
+returns : tie.Need-returns
+unfolding laxity job-in
+returns c = omega arith
+
+pub laxity-of-spec : {M : Type 1} → statement M
+laxity-of-spec = tie.close (tie.spec sub-t3 add-t4 returns)

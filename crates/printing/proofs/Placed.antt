@@ -1,0 +1,65 @@
+-- Laws of a line put into a buffer, whole or not at all.
+use mathlib.Core.Bool.{true, false}
+use mathlib.Core.Logic.{⊎-elim}
+use mathlib.Core.Path.{_≡_, ap, _∙_}
+use Prim.Native.Nat.{ℕ, _+_, _-_, _≤_, _<_}
+use native.Mathlib.Omega.{arith}
+use borrow.Author.Tests.{leb-true, le-leb}
+use lib.Dec.{leb}
+use lib.ListN.{length, take, replicate}
+use lib.Seq.{take-append-seam}
+use Rattle.lists.proofs.Tests.{and-left, and-right, and-intro, cond-true, cond-false, test}
+use Rattle.lines.specs.Bytes.{Bytes}
+use Rattle.printing.specs.declared.Line.{Line}
+use Rattle.printing.specs.Lines.{put, room, line-of, line-fits, with-line, end-after}
+
+pub fits-apart : (len at end : ℕ) → line-fits len at end ≡ true → (len ≤ 96) × (at + len ≤ end)
+unfolding line-fits room
+fits-apart len at end h =
+    let b = leb len 96 in
+    let e = leb (at + len) end in
+    (leb-true len 96 (and-left b e h), leb-true (at + len) end (and-right b e h))
+
+module _ (out : Bytes) (at : ℕ) (l : Line) (h : l .len ≤ 96) (k : at + l .len ≤ length out) where
+  fits : line-fits (l .len) at (length out) ≡ true
+  unfolding line-fits room
+  fits = and-intro _ _ (le-leb (l .len) 96 h) (le-leb (at + l .len) (length out) k)
+
+  pub line-placed : with-line out at l ≡ put out at (take (l .len) (l .bytes))
+  unfolding with-line
+  line-placed = cond-true _ _ _ fits
+
+  pub end-placed : end-after out at l ≡ at + l .len
+  unfolding end-after
+  end-placed = cond-true _ _ _ fits
+
+-- a line of these bytes holds them
+pub line-bytes : (bs : Bytes) → take (line-of bs .len) (line-of bs .bytes) ≡ bs
+unfolding line-of
+line-bytes bs = take-append-seam bs (replicate (room - length bs) 0)
+
+-- and is put whole
+module _ (out : Bytes) (at : ℕ) (bs : Bytes) (h : length bs ≤ 96) (k : at + length bs ≤ length out) where
+  pub whole-placed : with-line out at (line-of bs) ≡ put out at bs
+  unfolding line-of
+  whole-placed = line-placed out at (line-of bs) h k ∙ ap (put out at) (line-bytes bs)
+
+  pub whole-end : end-after out at (line-of bs) ≡ at + length bs
+  unfolding line-of
+  whole-end = end-placed out at (line-of bs) h k
+
+module _ (out : Bytes) (at : ℕ) (l : Line) (h : length out < at + l .len) where
+  outside : line-fits (l .len) at (length out) ≡ false
+  outside =
+      ⊎-elim
+      (λ t. let f = fits-apart (l .len) at (length out) t in absurd (omega arith))
+      (λ f. f)
+      (test (line-fits (l .len) at (length out)))
+
+  pub line-left-out : with-line out at l ≡ out
+  unfolding with-line
+  line-left-out = cond-false _ _ _ outside
+
+  pub end-left-out : end-after out at l ≡ at
+  unfolding end-after
+  end-left-out = cond-false _ _ _ outside

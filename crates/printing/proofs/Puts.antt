@@ -1,0 +1,72 @@
+-- Laws of bytes put into a buffer: what stands before and behind them, and one byte more.
+use mathlib.Core.List.{[], _∷_, _++_, append-assoc}
+use mathlib.Core.Path.{_≡_, ap, sym, _∙_}
+use Prim.Native.Nat.{ℕ, zero, suc, _+_, _-_, _≤_, _<_}
+use native.Mathlib.Nat.{zero-add, sub-zero, zero-sub, suc-sub-suc}
+use native.Mathlib.Numerals.{add-one}
+use native.Mathlib.Omega.{arith}
+use lib.ListN.{length, take, drop, set, replicate, length-append, length-set}
+use lib.Seq.{take-at, drop-at, drop-drop, take-set-le, drop-cons, drop-set-lt, set-split, getD-set-same, length-take-le, paste}
+use Rattle.lines.specs.Bytes.{Bytes}
+use Rattle.printing.specs.Lines.{put, line-of, room}
+
+module _ (out : Bytes) (at : ℕ) (bs : Bytes) where
+  parted : put out at bs ≡ (take at out ++ bs) ++ drop (at + length bs) out
+  unfolding put
+  parted = sym (append-assoc (take at out) bs (drop (at + length bs) out))
+
+  length-head : at ≤ length out → length (take at out ++ bs) ≡ at + length bs
+  length-head h = length-append (take at out) bs ∙ ap (λ (k : ℕ). k + length bs) (length-take-le at out h)
+
+  -- the buffer up to the end of the bytes
+  pub put-start : at ≤ length out → take (at + length bs) (put out at bs) ≡ take at out ++ bs
+  put-start h = rw parted (take-at (take at out ++ bs) (drop (at + length bs) out) (at + length bs) (length-head h))
+
+  -- and behind them
+  pub put-rest : at ≤ length out → drop (at + length bs) (put out at bs) ≡ drop (at + length bs) out
+  put-rest h = rw parted (drop-at (take at out ++ bs) (drop (at + length bs) out) (at + length bs) (length-head h))
+
+-- bytes put behind others
+pub put-append : (out : Bytes) (at : ℕ) (cs bs : Bytes) → at ≤ length out → put (put out at cs) (at + length cs) bs ≡ put out at (cs ++ bs)
+put-append out at cs bs h =
+    let n = at + length cs in
+    let e : n + length bs ≡ at + length (cs ++ bs) = omega (arith, length-append cs bs) in
+    let rest = ap (drop (length bs)) (put-rest out at cs h) in
+    parted (put out at cs) n bs
+    ∙ rw (put-start out at cs h, ← drop-drop (length bs) n (put out at cs), rest, drop-drop, e, parted out at (cs ++ bs)) (simp append-assoc)
+
+-- the last byte may be put first
+pub put-last : (out : Bytes) (at : ℕ) (cs : Bytes) (b : ℕ) → at + length cs < length out
+    → put (set out (at + length cs) b) at cs ≡ put out at (cs ++ (b ∷ []))
+unfolding put
+put-last out at cs b h =
+    let n = at + length cs in
+    let e : suc n ≡ at + length (cs ++ (b ∷ [])) = omega (arith, length-append cs (b ∷ [])) in
+    rw (take-set-le at out n b (omega arith), drop-set, e) (simp append-assoc)
+  where
+    drop-set : drop (at + length cs) (set out (at + length cs) b) ≡ b ∷ drop (suc (at + length cs)) out
+    drop-set =
+        let n = at + length cs in
+        rw (drop-cons (set out n b) n 0 (rw length-set h), getD-set-same out n b 0 h, drop-set-lt (suc n) out n b (omega arith))
+
+pub put-one : (out : Bytes) (at b : ℕ) → at < length out → set out at b ≡ put out at (b ∷ [])
+unfolding put
+put-one out at b h = rw add-one (set-split out at b h)
+
+-- the first byte may be put before the others
+pub put-first : (out : Bytes) (at b : ℕ) (bs : Bytes) → at < length out → put (set out at b) (at + 1) bs ≡ put out at (b ∷ bs)
+put-first out at b bs h = rw (put-one out at b h) (put-append out at (b ∷ []) bs (omega arith))
+
+-- the first n bytes of a list, as a loop copies them
+pub put-taken : (out : Bytes) (at : ℕ) (l : Bytes) (n : ℕ) → n ≤ length l → paste out at l n ≡ put out at (take n l)
+put-taken out at l n h = rw (parted out at (take n l), length-take-le n l h)
+
+drop-replicate : (k n x : ℕ) → drop k (replicate n x) ≡ replicate (n - k) x
+drop-replicate zero n x = rw sub-zero
+drop-replicate (suc k) zero x = rw zero-sub
+drop-replicate (suc k) (suc n) x = rw suc-sub-suc (drop-replicate k n x)
+
+-- bytes put at the start of zeros
+pub put-line-of : (bs : Bytes) → put (replicate room 0) 0 bs ≡ line-of bs .bytes
+unfolding put line-of
+put-line-of bs = rw (drop-replicate, zero-add)

@@ -1,0 +1,102 @@
+// One line of the program's output: a letter, numbers each behind a comma, and a line end; and its place in a buffer that the caller lends.
+ghost use mathlib.Core.Path.{_≡_};
+ghost use Prim.Native.Nat.{_+_, _≤_, min};
+ghost use lib.ListN.{length, take};
+ghost use Rattle.lines.specs.Printing.{decimal, printed};
+ghost use Rattle.printing.specs.Lines.{put, line-of, line-fits, with-line, end-after};
+
+// A line to print: its bytes are the first `len`.
+pub struct Line {
+    pub bytes: [u8; Line::ROOM],
+    pub len: usize,
+}
+
+impl Line {
+    // Room for a letter, four numbers of at most 20 digits each behind a comma, and a line end.
+    pub const ROOM: usize = 96;
+}
+
+// The line with this letter and the first `count` of these numbers, each behind a comma, in decimal without leading zeros, and a line end.
+pub fn print_line(letter: u8, numbers: [u64; 4], count: usize) -> Line
+    ensures { λ r. ⌜ (r ≡ line-of (printed letter (take count numbers))) × (r .len ≤ 96) ⌝ }
+{
+    let mut bytes = [0u8; Line::ROOM];
+    bytes[0] = letter;
+    let last = at_most_four(count);
+    let mut at: usize = 1;
+    let mut i: usize = 0;
+    while i < last {
+        let n = numbers[i];
+        bytes[at] = b',';
+        at = put_number(&mut bytes, at + 1, n);
+        i += 1;
+    }
+    bytes[at] = b'\n';
+    let len = at + 1;
+    Line { bytes, len }
+}
+
+// Puts the line's bytes at `at` in `out`, if they fit; the new end, or `at` where they do not fit and nothing is written.
+pub fn put_line(out: &mut [u8], at: usize, l: Line) -> usize
+    ensures { λ r. ⌜ (r ≡ end-after (now (out .entry)) at l) × (now (out .exit) ≡ with-line (now (out .entry)) at l) ⌝ }
+{
+    let len = l.len;
+    if !has_room(len, at, out.len()) {
+        return at;
+    }
+    let mut i: usize = 0;
+    while i < len {
+        out[at + i] = l.bytes[i];
+        i += 1;
+    }
+    at + len
+}
+
+// Whether so many bytes are no more than a line holds, and end at `end` or before where they start at `at`.
+fn has_room(len: usize, at: usize, end: usize) -> bool
+    ensures { λ r. ⌜ r ≡ line-fits len at end ⌝ }
+{
+    if Line::ROOM < len {
+        return false;
+    }
+    if end < at {
+        return false;
+    }
+    len <= end - at
+}
+
+fn at_most_four(count: usize) -> usize
+    ensures { λ r. ⌜ r ≡ min count 4 ⌝ }
+{
+    if count < 4 { count } else { 4 }
+}
+
+// Puts the digits of n at `at`, the last digit first; the new end.
+fn put_number(out: &mut [u8], at: usize, n: u64) -> usize
+    requires { ⌜ at + 20 ≤ length (now out) ⌝ }
+    ensures { λ r. ⌜ (r ≡ at + length (decimal n)) × (r ≤ at + 20) × (now (out .exit) ≡ put (now (out .entry)) at (decimal n)) ⌝ }
+{
+    let end = at + digit_count(n);
+    let mut next = end - 1;
+    let mut rest = n;
+    while 10 <= rest {
+        out[next] = (48 + rest % 10) as u8;
+        next -= 1;
+        rest /= 10;
+    }
+    out[next] = (48 + rest) as u8;
+    end
+}
+
+// How many digits n has.
+fn digit_count(n: u64) -> usize
+    ensures { λ r. ⌜ (r ≡ length (decimal n)) × (1 ≤ r) × (r ≤ 20) ⌝ }
+{
+    let mut left = n;
+    let mut count: usize = 1;
+    while 10 <= left {
+        left /= 10;
+        count += 1;
+    }
+    count
+}

@@ -1,0 +1,81 @@
+-- A field of digits, one byte further, and when it is a number.
+use mathlib.Core.Path.{_≡_, refl, sym, ap, _∙_}
+use mathlib.Core.List.{_∷_}
+use mathlib.Core.Bool.{Bool, true, false, _&&_}
+use Prim.Native.Nat.{ℕ, suc, _+_, _-_, _*_, _^_, _≤_, _<_}
+use native.Mathlib.Numerals.{add-one}
+use native.Mathlib.Nat.{pow-suc, pow-le-pow-right}
+use native.Mathlib.Omega.{arith}
+use lib.Dec.{leb}
+use lib.ListN.{length, getD, drop}
+use borrow.Author.Tests.{leb-true, le-leb, lt-leb, ne-eqb}
+use Rattle.lists.specs.Select.{every}
+use Rattle.lists.proofs.Tests.{and-left, and-right, cond-true, cond-false}
+use Rattle.lines.specs.Bytes.{Bytes}
+use Rattle.lines.specs.Fields.{is-digit, value-after, value, is-number, is-grade, is-blank, grade-value}
+use Rattle.reading.specs.declared.numbers.Field.the-variants.{Number, Bad}
+use Rattle.reading.specs.Parts.{number-field, grade-field}
+use Rattle.reading.proofs.Commas.{step}
+
+pub digit-bounds : (b : ℕ) → is-digit b ≡ true → (48 ≤ b) × (b ≤ 57)
+unfolding is-digit
+digit-bounds b h = (leb-true 48 b (and-left (leb 48 b) (leb b 57) h), leb-true b 57 (and-right (leb 48 b) (leb b 57) h))
+
+-- one digit more: the bytes left have the same value, and pass the same test
+module _ (f : Bytes) (at : ℕ) (h : at < length f) where
+  pub value-step : (n : ℕ) → value-after n (drop at f) ≡ value-after (n * 10 + (getD f at 0 - 48)) (drop (at + 1) f)
+  unfolding value-after
+  value-step n = ap (value-after n) (step f at h)
+
+  pub digits-step : every is-digit (drop at f) ≡ (is-digit (getD f at 0) && every is-digit (drop (at + 1) f))
+  unfolding every
+  digits-step = ap (every is-digit) (step f at h)
+
+-- so many digits have a value below that power of ten
+pub grows : (n at b : ℕ) → n < 10 ^ at → b ≤ 57 → n * 10 + (b - 48) < 10 ^ (at + 1)
+grows n at b h k = rw (add-one, pow-suc) (omega arith)
+
+pub below-ten : (n at : ℕ) → n < 10 ^ at → at ≤ 10 → n < 10 ^ 10
+below-ten n at h k = omega (arith, pow-le-pow-right {n = 10} (omega arith) k)
+
+-- whichever of the four tests fails, the field is no number
+no-left : (a b : Bool) → a ≡ false → (a && b) ≡ false
+no-left a b h = ap (_&& b) h
+
+no-right : (a b : Bool) → b ≡ false → (a && b) ≡ false
+no-right true b h = h
+no-right false b h = refl
+
+module _ (f : Bytes) where
+  no-number : is-number f ≡ false → Bad ≡ number-field f
+  unfolding number-field
+  no-number h = sym (cond-false (is-number f) _ _ h)
+
+  pub too-short : length f < 1 → Bad ≡ number-field f
+  unfolding is-number
+  too-short h = no-number (no-left _ _ (no-left _ _ (no-left _ _ (lt-leb 1 (length f) h))))
+
+  pub too-long : 10 < length f → Bad ≡ number-field f
+  unfolding is-number
+  too-long h = no-number (no-left _ _ (no-left _ _ (no-right (leb 1 (length f)) _ (lt-leb (length f) 10 h))))
+
+  pub no-digits : every is-digit f ≡ false → Bad ≡ number-field f
+  unfolding is-number
+  no-digits h = no-number (no-left _ _ (no-right (leb 1 (length f) && leb (length f) 10) _ h))
+
+  pub too-great : 4_294_967_295 < value f → Bad ≡ number-field f
+  unfolding is-number
+  too-great h = no-number (no-right (leb 1 (length f) && leb (length f) 10 && every is-digit f) _ (lt-leb (value f) 4_294_967_295 h))
+
+  pub a-number : 1 ≤ length f → length f ≤ 10 → every is-digit f ≡ true → value f ≤ 4_294_967_295 → Number (value f) ≡ number-field f
+  unfolding is-number number-field
+  a-number h k e g = simp (le-leb 1 (length f) h, le-leb (length f) 10 k, e, le-leb (value f) 4_294_967_295 g)
+
+  -- a blank grade is 0, and any other a number
+  pub blank-grade : length f ≡ 0 → Number 0 ≡ grade-field f
+  unfolding grade-field is-grade is-blank grade-value
+  blank-grade h = simp h
+
+  pub some-grade : (length f ≡ 0 → ⊥) → number-field f ≡ grade-field f
+  unfolding number-field grade-field is-grade is-blank grade-value
+  some-grade h = simp (ne-eqb (length f) 0 h)

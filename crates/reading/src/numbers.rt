@@ -1,0 +1,56 @@
+// A field read as a number.
+ghost use mathlib.Core.Path.{_≡_};
+ghost use Rattle.lines.specs.Fields.{is-digit};
+ghost use Rattle.reading.specs.Parts.{number-field, grade-field};
+
+// A field's answer: its number, or that row 14 refuses it.
+pub(crate) enum Field {
+    Number(u32),
+    Bad,
+}
+
+// The byte is a decimal digit.
+fn is_digit(b: u8) -> bool
+    ensures { λ r. ⌜ r ≡ is-digit b ⌝ }
+{
+    if b < b'0' {
+        return false;
+    }
+    b <= b'9'
+}
+
+// A number: 1 to 10 decimal digits, at most 4,294,967,295.
+pub(crate) fn number_field(f: &[u8]) -> Field
+    ensures { λ r. ⌜ r ≡ number-field (now (f .entry)) ⌝ }
+{
+    if f.len() < 1 {
+        return Field::Bad;
+    }
+    if 10 < f.len() {
+        return Field::Bad;
+    }
+    let mut n: u64 = 0;
+    let mut at = 0;
+    while at < f.len() {
+        let b = f[at];
+        if !is_digit(b) {
+            return Field::Bad;
+        }
+        n = n * 10 + (b - b'0') as u64;
+        at += 1;
+    }
+    if 4_294_967_295 < n {
+        return Field::Bad;
+    }
+    Field::Number(n as u32)
+}
+
+// A grade: a number, or blank, which is 0.
+pub(crate) fn grade_field(f: &[u8]) -> Field
+    ensures { λ r. ⌜ r ≡ grade-field (now (f .entry)) ⌝ }
+{
+    if f.len() == 0 {
+        return Field::Number(0);
+    }
+    number_field(f)
+}

@@ -1,0 +1,5 @@
+pub mod Known
+pub mod Steps
+pub mod Sharing
+pub mod Walk
+pub mod Parts

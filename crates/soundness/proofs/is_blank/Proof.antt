@@ -1,0 +1,12 @@
+-- `soundness::is_blank`. Assumes nothing.
+use borrow.Author.Needs.{needs}
+use Rattle.board.specs.Sound.{is-blank}
+use Rattle.soundness.proofs.is_blank.Statement.{statement}
+use Rattle.soundness.proofs.is_blank.Tie as tie
+
+returns : tie.Need-returns
+unfolding is-blank
+returns c = search needs
+
+pub is-blank-spec : {M : Type 1} → statement M
+is-blank-spec = tie.close (tie.spec returns)

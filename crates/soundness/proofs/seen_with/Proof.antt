@@ -1,0 +1,19 @@
+-- `soundness::seen_with`. Assumes nothing.
+use borrow.Author.Needs.{needs}
+use Rattle.board.specs.Limits.{most-in-slot}
+use Rattle.soundness.specs.Walk.{well-with, seen-with}
+use Rattle.soundness.proofs.seen_with.Statement.{statement}
+use Rattle.soundness.proofs.seen_with.Tie as tie
+
+sharing-with-requires : tie.Need-sharing-with-requires
+sharing-with-requires c κs = search needs
+
+is-short-requires : tie.Need-is-short-requires
+is-short-requires c κs = search needs
+
+returns : tie.Need-returns
+unfolding seen-with well-with most-in-slot
+returns c = cc
+
+pub seen-with-spec : {M : Type 1} → statement M
+seen-with-spec = tie.close (tie.spec sharing-with-requires is-short-requires returns)

@@ -1,0 +1,41 @@
+-- How the code tests soundness: the board's limits, and a walk along its jobs that keeps a little of the jobs seen.
+use mathlib.Core.Bool.{Bool, true, cond, _&&_}
+use mathlib.Core.List.{List, [], _∷_}
+use Prim.Native.Nat.{ℕ, suc, _+_, _-_, _^_}
+use lib.Dec.{leb, ltb, eqb}
+use Rattle.board.specs.declared.Place.{Place}
+use Rattle.board.specs.declared.Board.{Board}
+use Rattle.board.specs.Limits.{longest-laxity, most-in-slot, places-held, last-slot, deepest}
+use Rattle.board.specs.Held.{slot-number}
+use Rattle.soundness.specs.declared.Seen.{Seen}
+
+unfoldable pub in-limits : (depth slot count : ℕ) → Bool
+in-limits d k n = leb d deepest && leb 1 k && leb k (suc last-slot) && leb n places-held
+
+-- before the first job: no ticket, and the first slot
+unfoldable pub nothing-seen : Seen
+nothing-seen = record { well = true; ticket = 0; admitted = slot-number 1; sharing = 0 }
+
+-- how many jobs in a row, the next one included, share its admitted slot
+unfoldable pub sharing-with : Seen → Place → ℕ
+sharing-with s x = cond (eqb (x .admitted .0) (s .admitted .0)) (s .sharing + 1) 1
+
+-- the next job stands well after the jobs seen, can be baked in the slot, and has one of the grades
+unfoldable pub well-with : (slot grades : ℕ) → Seen → Place → Bool
+well-with k g s x =
+    s .well
+    && ltb (s .ticket) (x .ticket)
+    && leb (s .admitted .0) (x .admitted .0)
+    && leb (sharing-with s x) most-in-slot
+    && leb (x .admitted .0) k
+    && leb k (x .last .0)
+    && ltb (x .last .0 - x .admitted .0) longest-laxity
+    && ltb (x .grade) g
+
+unfoldable pub seen-with : (slot grades : ℕ) → Seen → Place → Seen
+seen-with k g s x = record { well = well-with k g s x; ticket = x .ticket; admitted = x .admitted; sharing = sharing-with s x }
+
+-- all is well after the places, and the last ticket does not pass the highest
+unfoldable pub all-well : Board → Seen → List Place → Bool
+all-well b s [] = s .well && leb (s .ticket) (b .highest)
+all-well b s (x ∷ l) = all-well b (seen-with (b .slot .0) (2 ^ b .depth) s x) l
