@@ -1,4 +1,4 @@
 // The calls on a board: admitting and closing. Public calls refuse; inner ones, for callers that have shown the board sound, skip that check.
-mod search;
 pub mod admit;
 pub mod close;
+mod search;

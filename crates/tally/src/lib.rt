@@ -6,7 +6,6 @@ ghost use Rattle.board.specs.Tally.{zero-tally, counted};
 use board::Counted;
 use board::Tally;
 
-pub mod boundary;
 pub mod lent;
 
 // Admitted, baked, given up.

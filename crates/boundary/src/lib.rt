@@ -1,0 +1,56 @@
+// The calls for callers in C or Rust. Numbers and structs pass as themselves, a slice as a pointer and then a length.
+ghost use mathlib.Core.Path.{_≡_};
+ghost use Rattle.board.specs.Sound.{sound};
+ghost use Rattle.board.specs.Open.{opened};
+ghost use Rattle.board.specs.Admit.{admitted};
+ghost use Rattle.board.specs.Close.{closed, given-up};
+ghost use Rattle.board.specs.Lent.{entries, LentAfter};
+ghost use Rattle.board.specs.Tally.{counted};
+use board::Admitted;
+use board::Board;
+use board::Closed;
+use board::Counted;
+use board::Laxity;
+use board::Opened;
+use board::Tally;
+
+#[no_mangle]
+pub extern "C" fn oven_sound(b: Board) -> bool
+    ensures { λ r. ⌜ r ≡ sound b ⌝ }
+{
+    soundness::is_sound(b)
+}
+
+#[no_mangle]
+pub extern "C" fn oven_open(depth: u32) -> Opened
+    ensures { λ r. ⌜ r ≡ opened depth ⌝ }
+{
+    Board::open(depth)
+}
+
+#[no_mangle]
+pub extern "C" fn oven_admit(b: Board, ticket: u32, laxity: Laxity, grade: u32) -> Admitted
+    ensures { λ r. ⌜ r ≡ admitted b ticket (laxity .0) grade ⌝ }
+{
+    calls::admit::admit(b, ticket, laxity, grade)
+}
+
+#[no_mangle]
+pub extern "C" fn oven_close(
+    b: Board,
+    tickets: &mut [u32],
+    grades: &mut [u8],
+    slots: &mut [u32],
+) -> Closed
+    ensures answer { λ r. ⌜ r ≡ closed b (entries (record { tickets = now (tickets .entry); grades = now (grades .entry); slots = now (slots .entry) })) ⌝ }
+    ensures lent { λ r. ⌜ LentAfter (r .refusal) (given-up b) (record { tickets = now (tickets .entry); grades = now (grades .entry); slots = now (slots .entry) }) (record { tickets = now (tickets .exit); grades = now (grades .exit); slots = now (slots .exit) }) ⌝ }
+{
+    calls::close::close(b, tickets, grades, slots)
+}
+
+#[no_mangle]
+pub extern "C" fn oven_count(t: Tally, kind: u32, grade: u32) -> Counted
+    ensures { λ r. ⌜ r ≡ counted t kind grade ⌝ }
+{
+    tally::count_event(t, kind, grade)
+}

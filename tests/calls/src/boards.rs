@@ -1,0 +1,51 @@
+//! Boards to try the calls on.
+
+use model::board::Board;
+use model::draw::Draw;
+use model::edges;
+use model::limits::LAST_SLOT;
+use model::samples;
+
+/// The kinds come round one by one: small, any size, full, one clause broken, at a
+/// bound, one field changed, and the end of the book.
+pub fn board(draw: &mut Draw, number: u64) -> Board {
+    let round = (number / 7) as usize;
+    match number % 7 {
+        0 => samples::board(draw, 7),
+        1 => samples::board(draw, 256),
+        2 => {
+            let slot = draw.between(40, LAST_SLOT);
+            samples::full_board(draw, slot)
+        }
+        3 => edges::BROKEN[round % edges::BROKEN.len()].1(draw),
+        4 => edges::BOUNDARY[round % edges::BOUNDARY.len()].1(draw),
+        5 => changed(draw),
+        _ => at_the_end(draw),
+    }
+}
+
+/// A sound board with one field changed by a little.
+fn changed(draw: &mut Draw) -> Board {
+    let mut board = samples::board(draw, 20);
+    let place = draw.index(board.held() + 1);
+    let step = draw.pick(&[1u32, 2, u32::MAX, u32::MAX - 1]);
+    let job = &mut board.places[place];
+    match draw.between(0, 7) {
+        0 => board.depth = draw.between(0, 255),
+        1 => board.slot = board.slot.wrapping_add(step),
+        2 => board.highest_ticket = board.highest_ticket.wrapping_add(step),
+        3 => board.count = draw.between(0, 300),
+        4 => job.ticket = job.ticket.wrapping_add(step),
+        5 => job.admitted = job.admitted.wrapping_add(step),
+        6 => job.deadline = job.deadline.wrapping_add(step),
+        _ => job.grade = draw.between(0, 255),
+    }
+    board
+}
+
+/// An empty board in one of the book's last slots, or past them.
+fn at_the_end(draw: &mut Draw) -> Board {
+    let depth = draw.between(0, 3);
+    let slot = draw.between(LAST_SLOT - 1, LAST_SLOT + 2);
+    Board::holding(depth, slot, draw.between(0, 9), &[])
+}
