@@ -1,4 +1,3 @@
-pub mod Lists
 pub mod Soundness
 pub mod Calls
 pub mod Tallies

@@ -3,3 +3,7 @@ pub mod Members
 pub mod Counting
 pub mod Least
 pub mod Rising
+pub mod Joined
+pub mod Once
+pub mod Parts
+pub mod Spread

@@ -16,8 +16,8 @@ use Rattle.board.specs.declared.Board.{Board}
 use Rattle.board.specs.Limits.{most-in-slot, places-held, last-slot, deepest}
 use Rattle.board.specs.Held.{used, held}
 use Rattle.board.specs.Sound.{is-blank, sound-intake, sound}
-use Rattle.board.proofs.Lists.Joined.{apart, together}
-use Rattle.board.proofs.Lists.Spread.{sharing}
+use Rattle.lists.proofs.Joined.{apart, together}
+use Rattle.lists.proofs.Spread.{sharing}
 use Rattle.board.proofs.Soundness.Facts.{admitted-in, board-tests}
 use Rattle.soundness.specs.Walk.{in-limits, nothing-seen, all-well}
 use Rattle.soundness.proofs.Sharing.{shares-most, none-before}

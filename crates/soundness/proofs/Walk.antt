@@ -16,7 +16,7 @@ use Rattle.board.specs.declared.Board.{Board}
 use Rattle.board.specs.Limits.{longest-laxity, most-in-slot}
 use Rattle.board.specs.Held.{job-in}
 use Rattle.board.specs.Sound.{sound-job}
-use Rattle.board.proofs.Lists.Joined.{apart, together}
+use Rattle.lists.proofs.Joined.{apart, together}
 use Rattle.board.proofs.Soundness.Facts.{admitted-in, job-tests}
 use Rattle.soundness.specs.declared.Seen.{Seen}
 use Rattle.soundness.specs.Walk.{sharing-with, well-with, seen-with, all-well}

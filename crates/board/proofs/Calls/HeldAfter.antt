@@ -14,7 +14,7 @@ use Rattle.board.specs.Limits.{places-held}
 use Rattle.board.specs.Held.{slot-number, job-in, blank, used, held}
 use Rattle.board.specs.Admit.{last-of, with-job}
 use Rattle.board.specs.Close.{bakes, kept, moved-on}
-use Rattle.board.proofs.Lists.Parts.{select-map}
+use Rattle.lists.proofs.Parts.{select-map}
 
 -- the place of a new job
 abbrev pub new-place : Board → (ticket laxity grade : ℕ) → Place

@@ -21,8 +21,8 @@ use Rattle.board.specs.declared.Board.{Board}
 use Rattle.board.specs.Limits.{longest-laxity, most-in-slot}
 use Rattle.board.specs.Held.{blank, held, in-slot}
 use Rattle.board.specs.Admit.{with-job}
-use Rattle.board.proofs.Lists.Parts.{never-fall-append, drop-mem-suc}
-use Rattle.board.proofs.Lists.Spread.{sharing}
+use Rattle.lists.proofs.Parts.{never-fall-append, drop-mem-suc}
+use Rattle.lists.proofs.Spread.{sharing}
 use Rattle.board.proofs.Soundness.Facts.{JobFacts, SoundFacts, admitted-in}
 use Rattle.board.proofs.Soundness.FreePlace.{room}
 use Rattle.board.proofs.Calls.Rows.{Admits}

@@ -19,7 +19,7 @@ use Rattle.board.specs.declared.Board.{Board}
 use Rattle.board.specs.Limits.{most-in-slot, places-held, last-slot}
 use Rattle.board.specs.Held.{job-in, blank, used, held}
 use Rattle.board.specs.Close.{bakes, kept, moved-on}
-use Rattle.board.proofs.Lists.Parts.{rise-select, never-fall-select, replicate-mem}
+use Rattle.lists.proofs.Parts.{rise-select, never-fall-select, replicate-mem}
 use Rattle.board.proofs.Soundness.Facts.{JobFacts, SoundFacts, admitted-in}
 use Rattle.board.proofs.Calls.HeldAfter.{held-moved-on}
 

@@ -15,7 +15,7 @@ use Rattle.board.specs.Rows.{first-given}
 use Rattle.board.specs.Held.{blank, used, held}
 use Rattle.board.specs.Sound.{sound}
 use Rattle.board.specs.Open.{empty-board, opened-if, opened}
-use Rattle.board.proofs.Lists.Parts.{replicate-mem}
+use Rattle.lists.proofs.Parts.{replicate-mem}
 use Rattle.board.proofs.Soundness.Facts.{SoundFacts}
 use Rattle.board.proofs.Soundness.Together.{all-sound}
 use Rattle.board.proofs.Calls.Rows.{row-skipped}

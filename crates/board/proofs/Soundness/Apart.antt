@@ -13,7 +13,7 @@ use Rattle.board.specs.declared.Board.{Board}
 use Rattle.board.specs.Limits.{longest-laxity, most-in-slot, places-held, last-slot, deepest}
 use Rattle.board.specs.Held.{slot-number, blank, held}
 use Rattle.board.specs.Sound.{is-blank, sound-job, sound-intake, sound}
-use Rattle.board.proofs.Lists.Joined.{apart}
+use Rattle.lists.proofs.Joined.{apart}
 use Rattle.board.proofs.Soundness.Facts.{JobFacts, SoundFacts, admitted-in, board-tests, job-tests}
 
 blank-place : (x : Place) → is-blank x ≡ true → x ≡ blank

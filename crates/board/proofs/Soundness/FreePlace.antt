@@ -13,7 +13,7 @@ use Rattle.board.specs.declared.Board.{Board}
 use Rattle.board.specs.Limits.{longest-laxity, most-in-slot, places-held}
 use Rattle.board.specs.Held.{held, in-slot}
 use Rattle.board.specs.Sound.{sound}
-use Rattle.board.proofs.Lists.Spread.{spread}
+use Rattle.lists.proofs.Spread.{spread}
 use Rattle.board.proofs.Soundness.Facts.{SoundFacts}
 use Rattle.board.proofs.Soundness.Apart.{facts}
 use Rattle.board.proofs.Soundness.HeldCount.{held-count}

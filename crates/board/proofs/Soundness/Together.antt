@@ -11,7 +11,7 @@ use Rattle.board.specs.declared.Board.{Board}
 use Rattle.board.specs.Limits.{longest-laxity, most-in-slot, places-held, last-slot, deepest}
 use Rattle.board.specs.Held.{blank, held}
 use Rattle.board.specs.Sound.{is-blank, sound-job, sound-intake, sound}
-use Rattle.board.proofs.Lists.Joined.{together}
+use Rattle.lists.proofs.Joined.{together}
 use Rattle.board.proofs.Soundness.Facts.{JobFacts, SoundFacts, admitted-in, board-tests, job-tests}
 
 place-blank : is-blank blank ≡ true

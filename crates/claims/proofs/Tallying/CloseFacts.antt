@@ -18,7 +18,7 @@ use Rattle.board.specs.Limits.{most-in-slot, last-slot}
 use Rattle.board.specs.Held.{held, in-slot}
 use Rattle.board.specs.Sound.{sound}
 use Rattle.board.specs.Close.{close-number, bakes, given-up, moved-on, closed-if, closed}
-use Rattle.board.proofs.Lists.Spread.{sharing}
+use Rattle.lists.proofs.Spread.{sharing}
 use Rattle.board.proofs.Soundness.Facts.{SoundFacts}
 use Rattle.board.proofs.Soundness.Apart.{facts}
 use Rattle.board.proofs.Tallies.CountAt.{Cell}

@@ -17,7 +17,7 @@ use Rattle.rule.specs.Bake.{is-baked, expires, stays}
 use Rattle.board.specs.declared.Board.{Board}
 use Rattle.board.specs.Held.{held}
 use Rattle.board.specs.Close.{bakes, given-up, moved-on}
-use Rattle.board.proofs.Lists.Once.{count-once}
+use Rattle.lists.proofs.Once.{count-once}
 use Rattle.board.proofs.Soundness.Facts.{SoundFacts}
 use Rattle.board.proofs.Calls.HeldAfter.{held-moved-on}
 use Rattle.claims.specs.Balance.{on-board}

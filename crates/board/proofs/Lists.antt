@@ -1,4 +1,0 @@
-pub mod Spread
-pub mod Parts
-pub mod Joined
-pub mod Once
