@@ -1,8 +1,7 @@
 -- A field of digits, one byte further, and when it is a number.
-use mathlib.Core.Path.{_≡_, refl, sym, ap, _∙_}
-use mathlib.Core.List.{_∷_}
+use mathlib.Core.Path.{_≡_, refl, sym, ap}
 use mathlib.Core.Bool.{Bool, true, false, _&&_}
-use Prim.Native.Nat.{ℕ, suc, _+_, _-_, _*_, _^_, _≤_, _<_}
+use Prim.Native.Nat.{ℕ, _+_, _-_, _*_, _^_, _≤_, _<_}
 use native.Mathlib.Numerals.{add-one}
 use native.Mathlib.Nat.{pow-suc, pow-le-pow-right}
 use native.Mathlib.Omega.{arith}
@@ -10,7 +9,7 @@ use lib.Dec.{leb}
 use lib.ListN.{length, getD, drop}
 use borrow.Author.Tests.{leb-true, le-leb, lt-leb, ne-eqb}
 use Rattle.lists.specs.Select.{every}
-use Rattle.lists.proofs.Tests.{and-left, and-right, cond-true, cond-false}
+use Rattle.lists.proofs.Tests.{and-left, and-right, cond-false}
 use Rattle.lines.specs.Bytes.{Bytes}
 use Rattle.lines.specs.Fields.{is-digit, value-after, value, is-number, is-grade, is-blank, grade-value}
 use Rattle.reading.specs.declared.numbers.Field.the-variants.{Number, Bad}

@@ -2,6 +2,7 @@
 use mathlib.Core.Path.{_≡_, refl}
 use mathlib.Core.Bool.{true, false}
 use mathlib.Core.List.{[], _∷_}
+use lib.ListN.{replicate}
 use Rattle.lists.specs.Select.{every}
 use Rattle.board.specs.Rows.{_if_, first-given}
 use Rattle.lines.specs.Bytes.{fields, onto-first, comma, letter-A, letter-B, letter-D}
@@ -11,9 +12,9 @@ use Rattle.reading.specs.declared.Reading.the-variants.{Open, Admit, Clo
 use Rattle.reading.specs.Answers.{reading, asked-or-refused, asked}
 
 examples :
-    -- `B`: `B` closes while a board is open
+    -- `B` while a board is open
     (reading true (66 ∷ []) ≡ Close) ×
-    -- `B`: and is out of turn while none is
+    -- `B` while none is
     (reading false (66 ∷ []) ≡ Refused 15) ×
     -- `B,`: a second field, though blank
     (reading true (66 ∷ 44 ∷ []) ≡ Refused 13) ×
@@ -23,7 +24,7 @@ examples :
     (reading false (68 ∷ 44 ∷ 48 ∷ 49 ∷ []) ≡ Open 1) ×
     -- `D,9`: the depth is read, and row 1 is the board's
     (reading false (68 ∷ 44 ∷ 57 ∷ []) ≡ Open 9) ×
-    -- `D,9`: out of turn
+    -- `D,9` while a board is open
     (reading true (68 ∷ 44 ∷ 57 ∷ []) ≡ Refused 15) ×
     -- `D,`: a blank depth, row 14 before row 15
     (reading true (68 ∷ 44 ∷ []) ≡ Refused 14) ×
@@ -39,10 +40,10 @@ examples :
     (reading true (65 ∷ 44 ∷ 49 ∷ 44 ∷ 49 ∷ 44 ∷ 120 ∷ []) ≡ Refused 14) ×
     -- `A,x`: row 13 before row 14
     (reading true (65 ∷ 44 ∷ 120 ∷ []) ≡ Refused 13) ×
-    -- `A,1,1,0`: no board and a good line
+    -- `A,1,1,0` while no board is open
     (reading false (65 ∷ 44 ∷ 49 ∷ 44 ∷ 49 ∷ 44 ∷ 48 ∷ []) ≡ Refused 15) ×
-    -- ``: an empty line
-    (reading true ([]) ≡ Refused 12) ×
+    -- an empty line
+    (reading true [] ≡ Refused 12) ×
     -- `a`: a small letter
     (reading true (97 ∷ []) ≡ Refused 12) ×
     -- `a,1,1`: row 12 before row 13
@@ -51,10 +52,10 @@ examples :
     (reading true (66 ∷ 13 ∷ []) ≡ Refused 12) ×
     -- `,B`: a comma first
     (reading true (44 ∷ 66 ∷ []) ≡ Refused 12) ×
-    -- forty bytes pass row 11
-    (reading true (65 ∷ 44 ∷ 49 ∷ 44 ∷ 49 ∷ 44 ∷ 48 ∷ 48 ∷ 48 ∷ 48 ∷ 48 ∷ 48 ∷ 48 ∷ 48 ∷ 48 ∷ 48 ∷ 48 ∷ 48 ∷ 48 ∷ 48 ∷ 48 ∷ 48 ∷ 48 ∷ 48 ∷ 48 ∷ 48 ∷ 48 ∷ 48 ∷ 48 ∷ 48 ∷ 48 ∷ 48 ∷ 48 ∷ 48 ∷ 48 ∷ 48 ∷ 48 ∷ 48 ∷ 48 ∷ 48 ∷ []) ≡ Refused 14) ×
-    -- forty-one do not
-    (reading true (65 ∷ 44 ∷ 49 ∷ 44 ∷ 49 ∷ 44 ∷ 48 ∷ 48 ∷ 48 ∷ 48 ∷ 48 ∷ 48 ∷ 48 ∷ 48 ∷ 48 ∷ 48 ∷ 48 ∷ 48 ∷ 48 ∷ 48 ∷ 48 ∷ 48 ∷ 48 ∷ 48 ∷ 48 ∷ 48 ∷ 48 ∷ 48 ∷ 48 ∷ 48 ∷ 48 ∷ 48 ∷ 48 ∷ 48 ∷ 48 ∷ 48 ∷ 48 ∷ 48 ∷ 48 ∷ 48 ∷ 48 ∷ []) ≡ Refused 11) ×
+    -- `A,1,1,` and zeros: forty bytes pass row 11, and thirty-four digits fail row 14
+    (reading true (65 ∷ 44 ∷ 49 ∷ 44 ∷ 49 ∷ 44 ∷ replicate 34 48) ≡ Refused 14) ×
+    -- one zero more
+    (reading true (65 ∷ 44 ∷ 49 ∷ 44 ∷ 49 ∷ 44 ∷ replicate 35 48) ≡ Refused 11) ×
     -- `D,0000000003`: ten digits
     (reading false (68 ∷ 44 ∷ 48 ∷ 48 ∷ 48 ∷ 48 ∷ 48 ∷ 48 ∷ 48 ∷ 48 ∷ 48 ∷ 51 ∷ []) ≡ Open 3) ×
     -- `D,00000000003`: eleven digits

@@ -3,14 +3,13 @@ use mathlib.Core.Path.{_≡_, refl, sym, ap, _∙_}
 use mathlib.Core.List.{[], _∷_}
 use mathlib.Core.Bool.{Bool, true, false, cond, _||_}
 use mathlib.Core.Logic.{_⊎_, inl, inr}
-use Prim.Native.Nat.{ℕ, suc}
+use Prim.Native.Nat.{ℕ}
 use native.Mathlib.Omega.{arith}
 use lib.Dec.{eqb}
 use lib.ListN.{length, getD}
 use Rattle.lists.proofs.Tests.{test, cond-true, cond-false}
 use Rattle.lines.specs.Bytes.{Bytes, letter-A, letter-B, letter-D}
 use Rattle.lines.specs.Fields.{is-letter}
-use Rattle.reading.specs.declared.Letter.{Letter}
 use Rattle.reading.specs.declared.Letter.the-variants.{Is, Other}
 use Rattle.reading.specs.Parts.{letter-field}
 

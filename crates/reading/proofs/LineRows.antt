@@ -1,20 +1,19 @@
 -- The rows of a line, taken one after the other.
-use mathlib.Core.Path.{_≡_, refl, sym, ap, ap₂, _∙_}
-use mathlib.Core.List.{List, [], _∷_}
+use mathlib.Core.Path.{_≡_, refl, sym, ap, _∙_}
+use mathlib.Core.List.{List, _∷_}
 use mathlib.Core.Bool.{Bool, true, false, not, cond, _&&_, _||_}
 use Prim.Native.Nat.{ℕ, suc, _≤_, _<_}
-use lib.Dec.{eqb, ltb}
+use lib.Dec.{eqb}
 use lib.ListN.{length, drop}
 use borrow.Author.Tests.{lt-ltb, le-ltb, eq-eqb, ne-eqb}
 use Rattle.lists.proofs.Tests.{cond-true}
 use Rattle.board.specs.Rows.{Row, _if_, first-given}
 use Rattle.board.proofs.Calls.Rows.{row-skipped}
 use Rattle.lines.specs.Bytes.{Bytes, fields, letter-A, letter-B, letter-D}
-use Rattle.lines.specs.Fields.{is-number, is-grade, value, grade-value, is-letter}
-use Rattle.lines.specs.Reading.{field, is-A, is-B, is-D, fields-wanted, readable, out-of-turn, line-rows, line-number, Request, open-board, admit-job, close-slot, request}
+use Rattle.lines.specs.Fields.{is-number, is-grade, value, grade-value}
+use Rattle.lines.specs.Reading.{field, is-A, is-B, is-D, fields-wanted, readable, out-of-turn, line-rows, line-number, open-board, admit-job, close-slot, request}
 use Rattle.reading.specs.declared.numbers.Field.the-variants.{Number, Bad}
 use Rattle.reading.specs.declared.Letter.the-variants.{Is, Other}
-use Rattle.reading.specs.declared.Reading.{Reading}
 use Rattle.reading.specs.declared.Reading.the-variants.{Refused}
 use Rattle.reading.specs.Answers.{asked, asked-or-refused, reading}
 use Rattle.reading.specs.Parts.{number-field, grade-field, letter-field, wanted, opening, admitting, closing}

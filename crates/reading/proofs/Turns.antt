@@ -1,5 +1,5 @@
 -- Rows 14 and 15 of a line that opens or admits, by what each field is.
-use mathlib.Core.Path.{_≡_, refl}
+use mathlib.Core.Path.{_≡_}
 use mathlib.Core.Bool.{Bool, true, false}
 use Prim.Native.Nat.{ℕ}
 use Rattle.reading.specs.declared.numbers.Field.{Field}

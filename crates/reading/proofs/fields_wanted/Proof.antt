@@ -4,20 +4,15 @@ use Rattle.lines.specs.Bytes.{letter-A, letter-D}
 use Rattle.reading.specs.Parts.{wanted}
 use Rattle.reading.proofs.fields_wanted.Statement.{statement}
 use Rattle.reading.proofs.fields_wanted.Tie as tie
-use Rattle.reading.proofs.fields_wanted.Reads as reads
-use Rattle.reading.proofs.fields_wanted.Lts as lts
 
--- src/lib.rt:47:1
 returns : tie.Need-returns
 unfolding wanted letter-A letter-D
 returns c = simp (eq-eqb _ _ (c .match .keys1))
 
--- src/lib.rt:47:1
 returns-2 : tie.Need-returns-2
 unfolding wanted letter-A letter-D
 returns-2 c = simp (c .match .keys2)
 
--- src/lib.rt:47:1
 returns-3 : tie.Need-returns-3
 unfolding wanted letter-A letter-D
 returns-3 c = simp (ne-eqb _ _ (c .match .rest .0 .1), ne-eqb _ _ (c .match .rest .1))

@@ -5,33 +5,25 @@ use Rattle.lines.specs.Bytes.{letter-A, letter-B, letter-D}
 use Rattle.reading.proofs.Letters.{known, a-letter, other-byte, other-length}
 use Rattle.reading.proofs.letter_field.Statement.{statement}
 use Rattle.reading.proofs.letter_field.Tie as tie
-use Rattle.reading.proofs.letter_field.Reads as reads
-use Rattle.reading.proofs.letter_field.Lts as lts
 
--- src/lib.rt:37:9
 returns : tie.Need-returns
 returns c = other-length _ (c .if1 .taken)
 
--- src/lib.rt:39:13
 shared-slice-read-b : tie.Need-shared-slice-read-b
 shared-slice-read-b c = search needs
 
--- src/lib.rt:33:1
 returns-2 : tie.Need-returns-2
 unfolding known letter-A letter-B letter-D
 returns-2 c = a-letter _ (c .before .before .if1 .left) (simp (c .match .keys1))
 
--- src/lib.rt:33:1
 returns-3 : tie.Need-returns-3
 unfolding known letter-A letter-B letter-D
 returns-3 c = a-letter _ (c .before .before .if1 .left) (simp (c .match .keys2))
 
--- src/lib.rt:33:1
 returns-4 : tie.Need-returns-4
 unfolding known letter-A letter-B letter-D
 returns-4 c = a-letter _ (c .before .before .if1 .left) (simp (c .match .keys3))
 
--- src/lib.rt:33:1
 returns-5 : tie.Need-returns-5
 unfolding known letter-A letter-B letter-D
 returns-5 c =

@@ -8,11 +8,6 @@ use Rattle.reading.specs.Parts.{number-field, grade-field}
 use Rattle.reading.proofs.Turns.{no-ticket, no-laxity, no-grade, not-open, admitted}
 use Rattle.reading.proofs.read_admit.Statement.{statement}
 use Rattle.reading.proofs.read_admit.Tie as tie
-use Rattle.reading.proofs.read_admit.Reads as reads
-use Rattle.reading.proofs.read_admit.Lts as lts
-use Rattle.reading.proofs.fields.nth_field.Reads as nth-field-reads
-use Rattle.reading.proofs.numbers.grade_field.Reads as grade-field-reads
-use Rattle.reading.proofs.numbers.number_field.Reads as number-field-reads
 
 -- what the fields' readers answer
 first : (c : tie.After-number-field) → number-field (field 1 (c .before .before .before .args .line .now)) ≡ c .number-field .result
@@ -34,79 +29,62 @@ laxity c = second (c .before .before) ∙ c .laxity .given .1
 grade : (c : tie.After-grade) → grade-field (field 3 (c .before .before .before .before .before .before .before .before .before .before .before .before .before .before .before .args .line .now)) ≡ Number (c .grade .given .0 .0)
 grade c = third (c .before .before) ∙ c .grade .given .1
 
--- src/lib.rt:77:46
 nth-field-requires : tie.Need-nth-field-requires
 nth-field-requires c κs = search needs
 
--- src/lib.rt:77:33
 number-field-requires : tie.Need-number-field-requires
 number-field-requires c κs = search needs
 
--- src/lib.rt:77:23
 enum-known-ticket : tie.Need-enum-known-ticket
 enum-known-ticket c = search needs
 
--- src/lib.rt:78:9
 enum-told : tie.Need-enum-told
 enum-told c = search needs
 
--- src/lib.rt:78:9
 returns : tie.Need-returns
 returns c = no-ticket _ _ _ _ (first (c .before .before) ∙ c .enum-told .given .1)
 
--- src/lib.rt:80:46
 nth-field-requires-2 : tie.Need-nth-field-requires-2
 nth-field-requires-2 c κs = search needs
 
--- src/lib.rt:80:33
 number-field-requires-2 : tie.Need-number-field-requires-2
 number-field-requires-2 c κs = search needs
 
--- src/lib.rt:80:23
 enum-known-laxity : tie.Need-enum-known-laxity
 enum-known-laxity c = search needs
 
--- src/lib.rt:81:9
 enum-told-2 : tie.Need-enum-told-2
 enum-told-2 c = search needs
 
--- src/lib.rt:81:9
 returns-2 : tie.Need-returns-2
 returns-2 c =
     let m = c .before .before in
     no-laxity _ _ _ _ (ticket (m .before .before .before)) (second m ∙ c .enum-told2 .given .1)
 
--- src/lib.rt:83:44
 nth-field-requires-3 : tie.Need-nth-field-requires-3
 nth-field-requires-3 c κs = search needs
 
--- src/lib.rt:83:32
 grade-field-requires : tie.Need-grade-field-requires
 grade-field-requires c κs = search needs
 
--- src/lib.rt:83:23
 enum-known-grade : tie.Need-enum-known-grade
 enum-known-grade c = search needs
 
--- src/lib.rt:84:9
 enum-told-3 : tie.Need-enum-told-3
 enum-told-3 c = search needs
 
--- src/lib.rt:84:9
 returns-3 : tie.Need-returns-3
 returns-3 c =
     let m = c .before .before in
     let l = m .before .before .before in
     no-grade _ _ _ _ (ticket (l .before .before .before .before .before)) (laxity l) (third m ∙ c .enum-told3 .given .1)
 
--- src/lib.rt:87:9
 returns-4 : tie.Need-returns-4
 returns-4 c =
     let m = c .before .before in
     let l = m .before .before .before .before .before in
     not-open _ _ _ _ (ticket (l .before .before .before .before .before)) (laxity l) (grade m) (not-true _ (c .if1 .taken))
 
--- src/lib.rt:71:1
 returns-5 : tie.Need-returns-5
 returns-5 c =
     let m = c .before .before in

@@ -3,36 +3,25 @@ use borrow.Author.Needs.{needs}
 use Rattle.reading.proofs.Turns.{no-depth, open-already, opened}
 use Rattle.reading.proofs.read_open.Statement.{statement}
 use Rattle.reading.proofs.read_open.Tie as tie
-use Rattle.reading.proofs.read_open.Reads as reads
-use Rattle.reading.proofs.read_open.Lts as lts
-use Rattle.reading.proofs.fields.nth_field.Reads as nth-field-reads
-use Rattle.reading.proofs.numbers.number_field.Reads as number-field-reads
 
--- src/lib.rt:61:45
 nth-field-requires : tie.Need-nth-field-requires
 nth-field-requires c κs = search needs
 
--- src/lib.rt:61:32
 number-field-requires : tie.Need-number-field-requires
 number-field-requires c κs = search needs
 
--- src/lib.rt:61:23
 enum-known-depth : tie.Need-enum-known-depth
 enum-known-depth c = search needs
 
--- src/lib.rt:62:9
 enum-told : tie.Need-enum-told
 enum-told c = search needs
 
--- src/lib.rt:62:9
 returns : tie.Need-returns
 returns c = no-depth _ (cc)
 
--- src/lib.rt:65:9
 returns-2 : tie.Need-returns-2
 returns-2 c = open-already _ {d = c .before .before .depth .given .0 .0} (cc) (cc)
 
--- src/lib.rt:58:1
 returns-3 : tie.Need-returns-3
 returns-3 c = opened _ (cc) (cc)
 

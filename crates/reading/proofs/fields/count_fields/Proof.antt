@@ -1,16 +1,14 @@
 -- `count_fields` counts the fields. The loop's invariant: the fields passed and those of the bytes left are one more than the line's.
-use Prim.Native.Nat.{ℕ, _+_, _-_, _≤_, _<_}
-use mathlib.Core.Path.{_≡_, refl, sym, ap, _∙_}
+use Prim.Native.Nat.{_+_, _-_, _≤_}
+use mathlib.Core.Path.{_≡_, refl, ap}
 use mathlib.Core.Logic.{⊎-elim}
 use native.Mathlib.Omega.{arith}
 use borrow.Author.Needs.{needs}
-use lib.ListN.{length, getD, drop}
+use lib.ListN.{length, drop}
 use Rattle.lines.specs.Bytes.{Bytes, comma, fields}
 use Rattle.reading.proofs.Commas.{past, count-comma, count-other}
 use Rattle.reading.proofs.fields.count_fields.Statement.{statement}
 use Rattle.reading.proofs.fields.count_fields.Tie as tie
-use Rattle.reading.proofs.fields.count_fields.Reads as reads
-use Rattle.reading.proofs.fields.count_fields.Lts as lts
 
 abbrev Inv-loop : tie.InvT-loop
 Inv-loop line n₀ at₀ n at =
@@ -19,27 +17,21 @@ Inv-loop line n₀ at₀ n at =
 abbrev μ-loop : tie.MeasureT-loop
 μ-loop line n₀ at₀ n at = length line - at
 
--- src/fields.rt:17:5
 loop-holds : tie.Need-loop-holds Inv-loop μ-loop
 loop-holds c = (search needs, search needs, refl)
 
--- src/fields.rt:18:12
 shared-slice-read-if1 : tie.Need-shared-slice-read-if1 Inv-loop μ-loop
 shared-slice-read-if1 c = search needs
 
--- src/fields.rt:19:13
 add-n : tie.Need-add-n Inv-loop μ-loop
 add-n c = search needs
 
--- src/fields.rt:21:9
 add-at : tie.Need-add-at Inv-loop μ-loop
 add-at c = search needs
 
--- src/fields.rt:17:5
 loop-less : tie.Need-loop-less Inv-loop μ-loop
 loop-less c = search needs
 
--- src/fields.rt:17:5
 loop-again : tie.Need-loop-again Inv-loop μ-loop
 unfolding comma
 loop-again c =
@@ -52,7 +44,6 @@ loop-again c =
     (λ w. (omega arith, omega arith, omega (arith, count-other line at t (w .0 .left))))
     (c .if1 .came)
 
--- src/fields.rt:12:1
 returns : tie.Need-returns Inv-loop μ-loop
 unfolding fields
 returns c =

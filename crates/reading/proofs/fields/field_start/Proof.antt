@@ -1,17 +1,15 @@
 -- `field_start` passes n commas. The loop's invariant: the field that is looked for is `left` fields further.
-use Prim.Native.Nat.{ℕ, _+_, _-_, _≤_, _<_}
+use Prim.Native.Nat.{ℕ, _-_, _≤_}
 use mathlib.Core.Path.{_≡_, refl, sym, ap, _∙_}
 use mathlib.Core.Logic.{⊎-elim}
 use native.Mathlib.Omega.{arith}
 use borrow.Author.Needs.{needs}
-use lib.ListN.{length, getD, drop}
+use lib.ListN.{length, drop}
 use Rattle.lines.specs.Bytes.{comma}
 use Rattle.lines.specs.Reading.{field}
 use Rattle.reading.proofs.Commas.{past, field-comma, field-other, field-none}
 use Rattle.reading.proofs.fields.field_start.Statement.{statement}
 use Rattle.reading.proofs.fields.field_start.Tie as tie
-use Rattle.reading.proofs.fields.field_start.Reads as reads
-use Rattle.reading.proofs.fields.field_start.Lts as lts
 
 abbrev Inv-loop : tie.InvT-loop
 Inv-loop line n left₀ at₀ left at =
@@ -20,33 +18,26 @@ Inv-loop line n left₀ at₀ left at =
 abbrev μ-loop : tie.MeasureT-loop
 μ-loop line n left₀ at₀ left at = length line - at
 
--- src/fields.rt:32:5
 loop-holds : tie.Need-loop-holds Inv-loop μ-loop
 loop-holds c = (search needs, refl)
 
--- src/fields.rt:34:13
 returns : tie.Need-returns Inv-loop μ-loop
 returns c =
     let l = c .before .before in
     (search needs, ap (λ (k : ℕ). field k (drop (l .loop .at) (l .before .args .line .now))) (sym (c .if1 .taken)) ∙ l .loop .inv .1)
 
--- src/fields.rt:36:12
 shared-slice-read-if2 : tie.Need-shared-slice-read-if2 Inv-loop μ-loop
 shared-slice-read-if2 c = search needs
 
--- src/fields.rt:37:13
 sub-left : tie.Need-sub-left Inv-loop μ-loop
 sub-left c = search needs
 
--- src/fields.rt:39:9
 add-at : tie.Need-add-at Inv-loop μ-loop
 add-at c = search needs
 
--- src/fields.rt:32:5
 loop-less : tie.Need-loop-less Inv-loop μ-loop
 loop-less c = search needs
 
--- src/fields.rt:32:5
 loop-again : tie.Need-loop-again Inv-loop μ-loop
 unfolding comma
 loop-again c =
@@ -60,7 +51,6 @@ loop-again c =
     (λ w. (omega arith, simp (w .1) (sym (field-other line at t (w .0 .left) (l .before .loop .left) some) ∙ l .before .loop .inv .1)))
     (c .if2 .came)
 
--- src/fields.rt:27:1
 returns-2 : tie.Need-returns-2 Inv-loop μ-loop
 returns-2 c =
     let l = c .before in

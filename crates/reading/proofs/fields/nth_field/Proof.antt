@@ -8,35 +8,25 @@ use Rattle.reading.specs.Parts.{to-comma}
 use Rattle.reading.proofs.Commas.{first-field, to-comma-within}
 use Rattle.reading.proofs.fields.nth_field.Statement.{statement}
 use Rattle.reading.proofs.fields.nth_field.Tie as tie
-use Rattle.reading.proofs.fields.nth_field.Reads as reads
-use Rattle.reading.proofs.fields.nth_field.Lts as lts
-use Rattle.reading.proofs.fields.field_end.Reads as field-end-reads
-use Rattle.reading.proofs.fields.field_start.Reads as field-start-reads
 
--- src/fields.rt:63:9
 field-start-requires : tie.Need-field-start-requires
 field-start-requires c κs = search needs
 
--- src/fields.rt:64:9
 field-end-requires : tie.Need-field-end-requires
 field-end-requires c κs = search needs
 
--- src/fields.rt:65:5
 sub-result : tie.Need-sub-result
 sub-result c = search needs
 
--- src/fields.rt:65:5
 part-result-start : tie.Need-part-result-start
 part-result-start c = search needs
 
--- src/fields.rt:65:5
 part-result-end : tie.Need-part-result-end
 part-result-end c =
     let r = c .before .field-start .result in
     let line = c .before .before .before .args .line .now in
     omega (arith, to-comma-within (drop r line), length-drop r line)
 
--- src/fields.rt:60:1
 returns : tie.Need-returns
 returns c =
     let r = c .before .before .field-start .result in

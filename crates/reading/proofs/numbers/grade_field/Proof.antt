@@ -4,19 +4,13 @@ use mathlib.Core.Path.{_∙_}
 use Rattle.reading.proofs.Digits.{blank-grade, some-grade}
 use Rattle.reading.proofs.numbers.grade_field.Statement.{statement}
 use Rattle.reading.proofs.numbers.grade_field.Tie as tie
-use Rattle.reading.proofs.numbers.grade_field.Reads as reads
-use Rattle.reading.proofs.numbers.grade_field.Lts as lts
-use Rattle.reading.proofs.numbers.number_field.Reads as number-field-reads
 
--- src/numbers.rt:53:9
 returns : tie.Need-returns
 returns c = blank-grade _ (c .if1 .taken)
 
--- src/numbers.rt:55:5
 number-field-requires : tie.Need-number-field-requires
 number-field-requires c κs = search needs
 
--- src/numbers.rt:49:1
 returns-2 : tie.Need-returns-2
 returns-2 c = c .number-field .ensures ∙ some-grade _ (c .before .if1 .left)
 

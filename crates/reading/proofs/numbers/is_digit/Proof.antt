@@ -3,8 +3,6 @@ use borrow.Author.Tests.{lt-leb, le-leb}
 use Rattle.lines.specs.Fields.{is-digit}
 use Rattle.reading.proofs.numbers.is_digit.Statement.{statement}
 use Rattle.reading.proofs.numbers.is_digit.Tie as tie
-use Rattle.reading.proofs.numbers.is_digit.Reads as reads
-use Rattle.reading.proofs.numbers.is_digit.Lts as lts
 
 returns : tie.Need-returns
 unfolding is-digit

@@ -15,9 +15,6 @@ use Rattle.reading.proofs.Commas.{past}
 use Rattle.reading.proofs.Digits.{digit-bounds, value-step, digits-step, grows, below-ten, too-short, too-long, no-digits, too-great, a-number}
 use Rattle.reading.proofs.numbers.number_field.Statement.{statement}
 use Rattle.reading.proofs.numbers.number_field.Tie as tie
-use Rattle.reading.proofs.numbers.number_field.Reads as reads
-use Rattle.reading.proofs.numbers.number_field.Lts as lts
-use Rattle.reading.proofs.numbers.is_digit.Reads as is-digit-reads
 
 abbrev Inv-loop : tie.InvT-loop
 Inv-loop f n₀ at₀ n at =
@@ -26,28 +23,22 @@ Inv-loop f n₀ at₀ n at =
 abbrev μ-loop : tie.MeasureT-loop
 μ-loop f n₀ at₀ n at = length f - at
 
--- src/numbers.rt:27:9
 returns : tie.Need-returns Inv-loop μ-loop
 returns c = too-short _ (omega arith)
 
--- src/numbers.rt:30:9
 returns-2 : tie.Need-returns-2 Inv-loop μ-loop
 returns-2 c = too-long _ (omega arith)
 
--- src/numbers.rt:34:5
 loop-holds : tie.Need-loop-holds Inv-loop μ-loop
 unfolding value
 loop-holds c = (search needs, search needs, refl, refl)
 
--- src/numbers.rt:35:17
 shared-slice-read-b : tie.Need-shared-slice-read-b Inv-loop μ-loop
 shared-slice-read-b c = search needs
 
--- src/numbers.rt:36:13
 is-digit-requires : tie.Need-is-digit-requires Inv-loop μ-loop
 is-digit-requires c κs = search needs
 
--- src/numbers.rt:37:13
 returns-3 : tie.Need-returns-3 Inv-loop μ-loop
 returns-3 c =
     let l = c .before .before .before in
@@ -63,31 +54,24 @@ digit c = sym (c .before .is-digit .ensures) ∙ not-false _ (c .if3 .left)
 small : (c : tie.Else3 Inv-loop μ-loop) → c .before .before .before .before .loop .n < 10 ^ 10
 small c = below-ten _ _ (c .before .before .before .before .loop .inv .1) (omega arith)
 
--- src/numbers.rt:39:13
 mul-n : tie.Need-mul-n Inv-loop μ-loop
 mul-n c = omega (arith, small c)
 
--- src/numbers.rt:39:23
 sub-n : tie.Need-sub-n Inv-loop μ-loop
 sub-n c = digit-bounds _ (digit c) .0
 
--- src/numbers.rt:39:22
 cast-n : tie.Need-cast-n Inv-loop μ-loop
 cast-n c = omega (arith, digit-bounds _ (digit c) .1)
 
--- src/numbers.rt:39:13
 add-n : tie.Need-add-n Inv-loop μ-loop
 add-n c = omega (arith, small c, digit-bounds _ (digit c) .1)
 
--- src/numbers.rt:40:9
 add-at : tie.Need-add-at Inv-loop μ-loop
 add-at c = search needs
 
--- src/numbers.rt:34:5
 loop-less : tie.Need-loop-less Inv-loop μ-loop
 loop-less c = search needs
 
--- src/numbers.rt:34:5
 loop-again : tie.Need-loop-again Inv-loop μ-loop
 loop-again c =
     let l = c .before .before .before in
@@ -108,18 +92,14 @@ passed c =
     let e : drop (c .before .loop .at) f ≡ [] = past f (c .before .loop .at) (c .loop-test .left) in
     (sym (ap (value-after (c .before .loop .n)) e) ∙ c .before .loop .inv .2, sym (c .before .loop .inv .3) ∙ ap (every is-digit) e)
 
--- src/numbers.rt:43:9
 returns-4 : tie.Need-returns-4 Inv-loop μ-loop
 returns-4 c = too-great _ (omega (arith, passed (c .before)))
 
--- src/numbers.rt:45:19
 cast-t14 : tie.Need-cast-t14 Inv-loop μ-loop
 cast-t14 c = search needs
 
--- src/numbers.rt:23:1
 returns-5 : tie.Need-returns-5 Inv-loop μ-loop
 returns-5 c =
-    let l = c .before .before in
     let p = passed (c .before) in
     ap Number (p .0) ∙ a-number _ (omega arith) (omega arith) (p .1) (omega arith)
 
