@@ -1,3 +1,5 @@
 pub mod Searching
 pub mod Admitting
 pub mod Closing
+pub mod Answering
+pub mod Feeding

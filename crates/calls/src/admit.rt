@@ -30,7 +30,7 @@ fn in_slot(b: Board) -> usize
 }
 
 // The number of grades of a depth.
-fn grades(depth: u8) -> u32
+pub(crate) fn grades(depth: u8) -> u32
     requires { ⌜ depth ≤ deepest ⌝ }
     ensures { λ r. ⌜ r ≡ 2 ^ depth ⌝ }
 {

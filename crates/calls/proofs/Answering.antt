@@ -1,0 +1,5 @@
+pub mod Pieces
+pub mod Entries
+pub mod Requests
+pub mod Answers
+pub mod Closings

@@ -1,0 +1,43 @@
+-- Output in pieces: bytes that are left to be put stand behind those that were.
+use mathlib.Core.Path.{_≡_, refl, sym, _∙_}
+use mathlib.Core.List.{[], _++_}
+use Prim.Native.Nat.{ℕ, _+_, _≤_}
+use native.Mathlib.Omega.{arith}
+use native.Mathlib.Nat.{add-zero}
+use lib.ListN.{length, length-append, take-append-drop}
+use Rattle.lines.specs.Bytes.{Bytes}
+use Rattle.printing.specs.Lines.{put, line-of, with-line, end-after}
+use Rattle.printing.specs.declared.Line.{Line}
+use Rattle.printing.proofs.Puts.{put-append}
+use Rattle.printing.proofs.Placed.{whole-placed, whole-end}
+
+-- a line made and put
+pub line-said : (out : Bytes) (at : ℕ) (bs : Bytes) (l : Line) (end : ℕ) (out' : Bytes) → at + 96 ≤ length out → l ≡ line-of bs → l .len ≤ 96
+    → end ≡ end-after out at l → out' ≡ with-line out at l → (end ≡ at + length bs) × (end ≤ at + 96) × (out' ≡ put out at bs)
+unfolding line-of
+line-said out at bs l end out' room e h p q =
+    let short : length bs ≤ 96 = rw e at h in
+    let end-is : end ≡ at + length bs = rw e at p ∙ whole-end out at bs short (omega arith) in
+    (end-is, omega arith, rw e at q ∙ whole-placed out at bs short (omega arith))
+
+-- of the bytes `all`, to be put at `at` in `out`, the bytes `rest` are left, to be put at `here` in `now`
+pub record Left (all out : Bytes) (at : ℕ) (rest now : Bytes) (here : ℕ) : Type 0 where
+  pub end : here + length rest ≡ at + length all
+  pub bytes : put now here rest ≡ put out at all
+
+pub all-left : (all out : Bytes) (at : ℕ) → Left all out at all out at
+all-left all out at = record { end = refl; bytes = refl }
+
+put-none : (now : Bytes) (here : ℕ) → put now here [] ≡ now
+unfolding put
+put-none now here = rw add-zero (take-append-drop here now)
+
+module _ {all out : Bytes} {at : ℕ} where
+  -- one piece more is put
+  pub fewer-left : (bs rest now : Bytes) (here : ℕ) (now' : Bytes) (here' : ℕ) → Left all out at (bs ++ rest) now here → here ≤ length now
+      → here' ≡ here + length bs → now' ≡ put now here bs → Left all out at rest now' here'
+  fewer-left bs rest now here now' here' l h e p =
+      record { end = omega (arith, l .end, length-append bs rest); bytes = rw (p, e) (put-append now here bs rest h ∙ l .bytes) }
+
+  pub none-left : (now : Bytes) (here : ℕ) → Left all out at [] now here → (here ≡ at + length all) × (now ≡ put out at all)
+  none-left now here l = (omega (arith, l .end), sym (put-none now here) ∙ l .bytes)

@@ -1,0 +1,118 @@
+//! The inputs.
+
+use model::inputs::KINDS;
+
+/// Bytes that the program reads at once, at the most.
+const READ_BUFFER: usize = 65_536;
+
+pub struct Case {
+    pub name: String,
+    pub bytes: Vec<u8>,
+    /// Bytes written to the program at a time; 0 for all at once.
+    pub piece: usize,
+    /// What must be printed, where the paper says it; else the model says it.
+    pub expected: Option<Vec<u8>>,
+}
+
+pub fn all() -> Vec<Case> {
+    let mut cases = vec![sample(), board_nine()];
+    cases.extend(generated());
+    cases.extend(in_pieces());
+    cases.extend(at_the_buffer());
+    cases
+}
+
+fn case(name: String, bytes: Vec<u8>, piece: usize) -> Case {
+    Case {
+        name,
+        bytes,
+        piece,
+        expected: None,
+    }
+}
+
+/// 01's sample session.
+fn sample() -> Case {
+    let bytes = b"D,1\nA,1,1,1\nA,2,2,1\nA,3,2,0\nB\nB\nB\n".to_vec();
+    let expected = b"D,1\nA,1,1\nA,2,2\nA,3,2\nB,1,3,0,1\nG,1,1,1\nB,2,2,1,0\nB,3,0,0,0\nT,0,1,1,0\nT,1,2,1,1\n".to_vec();
+    Case {
+        name: "sample".to_string(),
+        bytes,
+        piece: 0,
+        expected: Some(expected),
+    }
+}
+
+/// 01's board 9 as far as lines can say it; its last slot is in the kind `end`.
+fn board_nine() -> Case {
+    let mut bytes = b"D,0\nA,1,32,0\nA,2,33,0\nA,2,0,0\nA,1,1,0\nA,1,99,0\n".to_vec();
+    let mut expected = b"D,0\nA,1,32\nR,3,5\nR,4,5\nR,5,4\nR,6,4\n".to_vec();
+    for ticket in 2..=8 {
+        bytes.extend(format!("A,{ticket},5,0\n").bytes());
+        expected.extend(format!("A,{ticket},5\n").bytes());
+    }
+    bytes.extend(b"A,9,5,0\n");
+    expected.extend(b"R,14,7\n");
+    bytes.extend(
+        [b'7'; 40]
+            .iter()
+            .chain(b"\n")
+            .chain(&[b'7'; 41])
+            .chain(b"\n"),
+    );
+    expected.extend(b"R,15,12\nR,16,11\nT,0,8,0,0\n");
+    Case {
+        name: "board 9".to_string(),
+        bytes,
+        piece: 0,
+        expected: Some(expected),
+    }
+}
+
+/// Each kind many times, short and long.
+fn generated() -> Vec<Case> {
+    let mut cases = Vec::new();
+    for kind in &KINDS {
+        if kind.name == "end" {
+            cases.push(case("end".to_string(), kind.input(1, None), 0));
+            continue;
+        }
+        for seed in 0..300 {
+            let size = [None, Some(1), Some(3), Some(20)][seed as usize % 4];
+            cases.push(case(
+                format!("{} {seed}", kind.name),
+                kind.input(seed, size),
+                0,
+            ));
+        }
+    }
+    cases
+}
+
+/// Small days written a few bytes at a time.
+fn in_pieces() -> Vec<Case> {
+    let mut cases = Vec::new();
+    for (number, kind) in KINDS.iter().filter(|kind| kind.name != "end").enumerate() {
+        for piece in [1, 2, 3, 7, 40] {
+            let seed = (1_000 + number) as u64;
+            cases.push(case(
+                format!("{} by {piece}", kind.name),
+                kind.input(seed, Some(10)),
+                piece,
+            ));
+        }
+    }
+    cases
+}
+
+/// A day that the end of the read buffer cuts at every place of its first lines.
+fn at_the_buffer() -> Vec<Case> {
+    let day = b"D,2\nA,1,3,0\nA,2,1,3\n\nA,4294967295,2,1\n0123456789012345678901234567890123456789x\nB\nB,\nB\n".to_vec();
+    (0..=day.len())
+        .map(|place| {
+            let mut bytes = vec![b'\n'; READ_BUFFER - place];
+            bytes.extend(&day);
+            case(format!("buffer at {place}"), bytes, 0)
+        })
+        .collect()
+}
