@@ -11,6 +11,7 @@ use board::Closed;
 use board::Slot;
 
 // 'One entry a rack: ticket, grade, admitted slot.'
+#[repr(C)]
 pub struct Entry {
     pub ticket: u32,
     pub grade: u8,
@@ -73,7 +74,8 @@ fn entry_at(p: Parts, i: usize) -> Entry
 }
 
 // Closes a slot and writes the jobs given up from the start of a list of entries that the caller lends.
-pub fn close_into(b: Board, list: &mut [Entry]) -> Closed
+#[no_mangle]
+pub extern "C" fn close_into(b: Board, list: &mut [Entry]) -> Closed
     ensures answer { λ r. ⌜ r ≡ closed b (length (now (list .entry))) ⌝ }
     ensures lent { λ r. ⌜ EntriesAfter (r .refusal) (given-up b) (now (list .entry)) (now (list .exit)) ⌝ }
 {

@@ -9,6 +9,7 @@ use Rattle.board.specs.Limits.{longest-laxity, most-in-slot, places-held, last-
 use Rattle.board.specs.Held.{slot-number}
 use Rattle.soundness.specs.declared.Seen.{Seen}
 
+-- the depth, the slot and the count are in their limits
 unfoldable pub in-limits : (depth slot count : ℕ) → Bool
 in-limits d k n = leb d deepest && leb 1 k && leb k (suc last-slot) && leb n places-held
 
@@ -32,6 +33,7 @@ well-with k g s x =
     && ltb (x .last .0 - x .admitted .0) longest-laxity
     && ltb (x .grade) g
 
+-- what is seen, with the next job
 unfoldable pub seen-with : (slot grades : ℕ) → Seen → Place → Seen
 seen-with k g s x = record { well = well-with k g s x; ticket = x .ticket; admitted = x .admitted; sharing = sharing-with s x }
 

@@ -26,7 +26,10 @@ struct Seen {
 fn in_limits(depth: u8, slot: Slot, count: usize) -> bool
     ensures { λ r. ⌜ r ≡ in-limits depth (slot .0) count ⌝ }
 {
-    (depth <= 3) & (1 <= slot.0) & (slot.0 <= Board::LAST_SLOT + 1) & (count <= Board::PLACES)
+    ((depth as u32) <= Board::DEEPEST)
+        & (1 <= slot.0)
+        & (slot.0 <= Board::LAST_SLOT + 1)
+        & (count <= Board::PLACES)
 }
 
 // The number of grades of a depth.

@@ -46,6 +46,14 @@ pub struct Closed {
 }
 
 #[repr(C)]
+#[derive(Clone, Copy, Debug, PartialEq, Eq, PartialOrd, Ord)]
+pub struct Entry {
+    pub ticket: u32,
+    pub grade: u8,
+    pub admitted: u32,
+}
+
+#[repr(C)]
 #[derive(Clone, Copy, Debug, PartialEq, Eq)]
 pub struct Tally {
     pub counts: [u32; 24],
@@ -71,6 +79,8 @@ extern "C" {
         slots_len: usize,
     ) -> Closed;
     fn oven_count(t: Tally, kind: u32, grade: u32) -> Counted;
+    fn close_into(b: Board, list: *mut Entry, list_len: usize) -> Closed;
+    fn note(t: *mut Tally, kind: u32, grade: u32) -> u8;
 }
 
 pub fn sound(b: Board) -> bool {
@@ -92,6 +102,16 @@ pub fn close(b: Board, tickets: &mut [u32], grades: &mut [u8], slots: &mut [u32]
 
 pub fn count(t: Tally, kind: u32, grade: u32) -> Counted {
     unsafe { oven_count(t, kind, grade) }
+}
+
+/// A closing that writes entries.
+pub fn close_entries(b: Board, list: &mut [Entry]) -> Closed {
+    unsafe { close_into(b, list.as_mut_ptr(), list.len()) }
+}
+
+/// An event for a tally that is lent.
+pub fn count_lent(t: &mut Tally, kind: u32, grade: u32) -> u8 {
+    unsafe { note(t, kind, grade) }
 }
 
 /// A board of the model as the library has it.

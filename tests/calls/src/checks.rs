@@ -1,6 +1,6 @@
 //! One call here and there: the answers, the board, the lists, the tally.
 
-use crate::boundary::{self, Tally};
+use crate::boundary::{self, Entry, Tally};
 use model::board::{self, Board};
 use model::calls;
 use model::draw::Draw;
@@ -102,7 +102,44 @@ fn closes(draw: &mut Draw, board: &mut Board, lent: [usize; 3]) -> bool {
         && slots[gone..].iter().eq(before[gone..lent[2]].iter().map(|entry| &entry.2))
 }
 
-/// One event on a tally that often stands at a limit.
+/// Closes with a lent list of entries that is often long enough.
+pub fn closing_entries(draw: &mut Draw, board: &Board) -> bool {
+    let lent = draw.pick(&[0, 1, 255, 256, 256, 256, 257, 300]);
+    closes_entries(draw, &mut board.clone(), lent)
+}
+
+fn closes_entries(draw: &mut Draw, board: &mut Board, lent: usize) -> bool {
+    let given = boundary::board(board);
+    let before: Vec<Entry> = (0..lent)
+        .map(|_| Entry {
+            ticket: draw.step() as u32,
+            grade: draw.step() as u8,
+            admitted: draw.step() as u32,
+        })
+        .collect();
+    let mut list = before.clone();
+    let answer = calls::close(board, lent);
+    let closed = boundary::close_entries(given, &mut list);
+    let refused = calls::Closed { ticket: 0, grade: 0, expired: Vec::new() };
+    let expected = answer.as_ref().unwrap_or(&refused);
+    let gone = expected.expired.len();
+    let mut wanted: Vec<Entry> = expected
+        .expired
+        .iter()
+        .map(|e| Entry { ticket: e.ticket, grade: e.grade as u8, admitted: e.admitted })
+        .collect();
+    wanted.sort_unstable();
+    list[..gone].sort_unstable();
+    closed.refusal == number(&answer)
+        && closed.ticket == expected.ticket
+        && u32::from(closed.grade) == expected.grade
+        && closed.expired as usize == gone
+        && closed.board == boundary::board(board)
+        && list[..gone] == wanted[..]
+        && list[gone..] == before[gone..]
+}
+
+/// One event on a tally that often stands at a limit, by value and lent.
 pub fn tally(draw: &mut Draw) -> bool {
     let mut expected = tally::Tally::default();
     let limits = [0, 1, FULL_COUNT - 1, FULL_COUNT, FULL_COUNT + 1, u32::MAX];
@@ -115,8 +152,13 @@ pub fn tally(draw: &mut Draw) -> bool {
     let grade = draw.pick(&[0, 3, 6, 7, 8, u32::MAX]);
     let answer = expected.record(kind, grade);
     let counted = boundary::count(given, kind, grade);
+    let mut lent = given;
+    let refusal = boundary::count_lent(&mut lent, kind, grade);
     let after: Vec<u32> = expected.counts.iter().flatten().copied().collect();
-    counted.refusal == number(&answer) && counted.tally.counts[..] == after[..]
+    counted.refusal == number(&answer)
+        && counted.tally.counts[..] == after[..]
+        && refusal == counted.refusal
+        && lent == counted.tally
 }
 
 /// Calls one after the other on one board, each on what the call before handed back.
@@ -124,6 +166,9 @@ pub fn run(draw: &mut Draw) -> bool {
     let mut board = samples::board(draw, 12);
     (0..60).all(|_| {
         if draw.one_in(3) {
+            if draw.one_in(2) {
+                return closes_entries(draw, &mut board, 256);
+            }
             let lent = if draw.one_in(9) { [255, 256, 256] } else { [256, 256, 256] };
             return closes(draw, &mut board, lent);
         }

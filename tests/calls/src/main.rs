@@ -29,6 +29,7 @@ fn main() {
         count.take("soundness", checks::soundness(&board));
         count.take("admitting", checks::admitting(&mut draw, &board));
         count.take("closing", checks::closing(&mut draw, &board));
+        count.take("closing, entries", checks::closing_entries(&mut draw, &board));
     }
     for _ in 0..TALLIES {
         count.take("tally", checks::tally(&mut draw));
