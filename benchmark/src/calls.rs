@@ -1,0 +1,99 @@
+//! Single calls: closing a full board, admitting on a nearly full one.
+
+use crate::boundary;
+use model::board::{Board, Job};
+use model::calls;
+use model::draw::Draw;
+use std::hint::black_box;
+use std::time::{Duration, Instant};
+
+/// Calls timed together.
+const REPEATS: u32 = 400;
+/// The least of so many timings counts.
+const TRIALS: u32 = 5;
+
+/// How laxities and grades lie on a board.
+#[derive(Clone, Copy)]
+pub enum Spread {
+    Both,
+    OneGrade,
+    OneLaxity,
+}
+
+/// A sound board of depth 3 in slot 100 that holds so many racks, eight of each slot that has any.
+pub fn board(held: u32, spread: Spread) -> Board {
+    let (slot, mut draw) = (100, Draw::new(7));
+    let first = slot + 1 - (held + 7) / 8;
+    let jobs: Vec<Job> = (0..held)
+        .map(|i| {
+            let admitted = first + i / 8;
+            let deadline = match spread {
+                Spread::OneLaxity => slot,
+                _ => draw.between(slot, admitted + 31),
+            };
+            let grade = match spread {
+                Spread::OneGrade => 5,
+                _ => draw.between(0, 7),
+            };
+            Job { ticket: i + 1, admitted, deadline, grade }
+        })
+        .collect();
+    Board::holding(3, slot, held, &jobs)
+}
+
+/// The least time of a call.
+fn least(mut call: impl FnMut()) -> Duration {
+    let trial = |_| {
+        let began = Instant::now();
+        (0..REPEATS).for_each(|_| call());
+        began.elapsed() / REPEATS
+    };
+    (0..TRIALS).map(trial).min().unwrap_or_default()
+}
+
+fn show(name: &str, ours: Duration, model: Duration, sorted: Option<Duration>) {
+    let ratio = |other: Duration| ours.as_secs_f64() / other.as_secs_f64();
+    let beside = sorted.map_or(String::new(), |time| format!(", {:.2} of sorting ({time:.1?})", ratio(time)));
+    println!("{name}: {ours:.1?}, {:.2} of the model ({model:.1?}){beside}", ratio(model));
+}
+
+/// Closes a board; the lent lists are cleared once, before all calls.
+pub fn closing(name: &str, board: &Board) {
+    let given = boundary::board(board);
+    let (mut tickets, mut grades, mut slots) = ([0; 256], [0; 256], [0; 256]);
+    let ours = least(|| {
+        black_box(boundary::close(black_box(given), &mut tickets, &mut grades, &mut slots));
+    });
+    let model = least(|| {
+        let _ = black_box(calls::close(&mut black_box(board.clone()), 256));
+    });
+    let sorted = least(|| {
+        let _ = black_box(calls::close_with(&mut black_box(board.clone()), 256, benchmark::job_to_bake));
+    });
+    show(name, ours, model, Some(sorted));
+}
+
+/// Opens a board, which does little else than to hand one over; and asks whether a board is sound.
+pub fn parts(board: &Board) {
+    let given = boundary::board(board);
+    let opening = least(|| {
+        black_box(boundary::open(black_box(3)));
+    });
+    let soundness = least(|| {
+        black_box(boundary::sound(black_box(given)));
+    });
+    println!("of these: a board made and handed over {opening:.1?}, a check of soundness {soundness:.1?}");
+}
+
+/// Admits one rack more on a board.
+pub fn admitting(name: &str, board: &Board) {
+    let given = boundary::board(board);
+    let ticket = board.highest_ticket + 1;
+    let ours = least(|| {
+        black_box(boundary::admit(black_box(given), ticket, 9, 4));
+    });
+    let model = least(|| {
+        let _ = black_box(calls::admit(&mut black_box(board.clone()), ticket, 9, 4));
+    });
+    show(name, ours, model, None);
+}

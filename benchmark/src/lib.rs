@@ -1,0 +1,36 @@
+//! The rule by sorting, for comparison: at every level the group is sorted by last slot, and its tight set is a beginning of it.
+
+use model::board::Job;
+use model::rule::bit;
+
+/// The rack to bake; none where there are no racks.
+pub fn job_to_bake(jobs: &[Job], slot: u32, depth: u32) -> Option<Job> {
+    let mut group = jobs.to_vec();
+    for place in 0..depth as usize {
+        let tight = tight_by_sorting(&mut group, slot);
+        let has_zero = group[..tight].iter().any(|job| bit(job.grade, depth, place) == 0);
+        let wanted = u32::from(!has_zero);
+        group.retain(|job| bit(job.grade, depth, place) == wanted);
+    }
+    tight_by_sorting(&mut group, slot);
+    group.first().copied()
+}
+
+/// Sorts a group by last slot, then ticket, and gives the length of its tight set.
+fn tight_by_sorting(group: &mut [Job], slot: u32) -> usize {
+    group.sort_unstable_by_key(|job| (job.deadline, job.ticket));
+    let mut tight = 0;
+    let mut least = i64::MAX;
+    for held in 1..=group.len() {
+        let last = group[held - 1].deadline;
+        if group.get(held).map(|job| job.deadline) == Some(last) {
+            continue;
+        }
+        let excess = i64::from(last) - i64::from(slot) + 1 - held as i64;
+        if excess < least {
+            least = excess;
+            tight = held;
+        }
+    }
+    tight
+}
