@@ -45,10 +45,12 @@ fn peak_memory(status: &str) -> u64 {
     line.and_then(|rest| rest.split_whitespace().next()?.parse().ok()).unwrap_or(0)
 }
 
-/// The lines of an output in order of bytes: the order of the racks given up is left open.
-fn sorted_lines(output: &Path) -> io::Result<Vec<String>> {
+/// The lines of an output, those of the racks given up in one slot sorted, since their order is left open.
+fn printed_lines(output: &Path) -> io::Result<Vec<String>> {
     let mut lines: Vec<String> = fs::read_to_string(output)?.lines().map(String::from).collect();
-    lines.sort_unstable();
+    for given_up in lines.split_mut(|line| !line.starts_with('G')) {
+        given_up.sort_unstable();
+    }
     Ok(lines)
 }
 
@@ -62,7 +64,7 @@ pub fn day(name: &str, programs: &[String], folder: &Path, slots: u32, racks: u3
         for (program, least) in programs.iter().zip(&mut best) {
             let (time, peak) = once(program, &input, &output)?;
             *least = (least.0.min(time), least.1.max(peak));
-            let printed = sorted_lines(&output)?;
+            let printed = printed_lines(&output)?;
             assert!(expected.get_or_insert_with(|| printed.clone()) == &printed, "{program} prints something else");
         }
     }
