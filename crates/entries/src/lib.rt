@@ -1,6 +1,6 @@
 // A closing that writes 01's list as it is put there, one entry a job, into a slice of entries that the caller lends.
 ghost use mathlib.Core.Path.{_≡_};
-ghost use Prim.Native.Nat.{_<_, min};
+ghost use Prim.Native.Nat.{_<_};
 ghost use lib.ListN.{length};
 ghost use Rattle.board.specs.Limits.{places-held};
 ghost use Rattle.board.specs.Close.{given-up, closed};
@@ -9,6 +9,7 @@ ghost use Rattle.entries.specs.Parts.{entry-at, Gathered};
 use board::Board;
 use board::Closed;
 use board::Slot;
+use calls::close;
 
 // 'One entry a rack: ticket, grade, admitted slot.'
 #[repr(C)]
@@ -32,13 +33,6 @@ struct Gone {
     parts: Parts,
 }
 
-// The lesser of two numbers.
-fn lesser(x: usize, y: usize) -> usize
-    ensures { λ r. ⌜ r ≡ min x y ⌝ }
-{
-    if x < y { x } else { y }
-}
-
 // Closes a slot for a list of so many entries.
 fn closing(b: Board, lent: usize) -> Gone
     ensures { λ r. ⌜ Gathered b lent r ⌝ }
@@ -46,8 +40,8 @@ fn closing(b: Board, lent: usize) -> Gone
     let mut tickets = [0u32; Board::PLACES];
     let mut grades = [0u8; Board::PLACES];
     let mut slots = [0u32; Board::PLACES];
-    let n = lesser(lent, Board::PLACES);
-    let answer = calls::close::close(b, &mut tickets[..n], &mut grades[..n], &mut slots[..n]);
+    let n = close::lesser(lent, Board::PLACES);
+    let answer = close::close(b, &mut tickets[..n], &mut grades[..n], &mut slots[..n]);
     let count = answer.expired as usize;
     let parts = Parts {
         tickets,

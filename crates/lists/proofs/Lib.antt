@@ -7,3 +7,4 @@ pub mod Joined
 pub mod Once
 pub mod Parts
 pub mod Spread
+pub mod Less

@@ -8,8 +8,8 @@ use lib.Dec.{eqb}
 use borrow.Author.Tests.{eqb-true, eq-eqb, ne-eqb}
 use Rattle.lists.specs.Select.{select}
 use Rattle.lists.proofs.Members.{select-yes, select-no, select-all}
+use Rattle.lists.proofs.Less.{Less, here, there}
 use Rattle.rule.specs.Job.{Job}
-use Rattle.rule.proofs.NoRegret.Items.{Less, here, there}
 use Rattle.books.specs.Rule.{without}
 use Rattle.books.proofs.Walks.Tickets.{Rising, rising-head, rising-tail, rising-above}
 

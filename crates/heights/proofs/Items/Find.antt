@@ -6,12 +6,13 @@ use mathlib.Core.List.{List, [], _∷_}
 use Prim.Native.Nat.{ℕ, zero, suc, _≤_, _<_}
 use native.Mathlib.Omega.{arith}
 use lib.ListN.{length}
+use Rattle.lists.proofs.Less.{Less}
 use Rattle.heights.proofs.Heights.Part.{cmp}
 use Rattle.heights.proofs.Sides.Board.{each-bit}
 use Rattle.heights.proofs.Trees.Tree.{Tree, SameTree, OutTree, same-tree-sym, total-out}
 use Rattle.heights.proofs.Trees.NoRegret.{NoRegret, widest, no-regret-left}
 use Rattle.heights.proofs.Trees.Exists.{take-no-regret}
-use Rattle.heights.proofs.Items.Item.{Item, Bits, count, Less, less-low, less-high, Each, each-less}
+use Rattle.heights.proofs.Items.Item.{Item, Bits, count, less-low, less-high, Each, each-less}
 use Rattle.heights.proofs.Items.Side.{more-bits, side, side-kept}
 use Rattle.heights.proofs.Items.Tree.{tree, total-tree}
 use Rattle.heights.proofs.Items.Start.{split-bits, each-short}

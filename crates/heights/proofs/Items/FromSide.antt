@@ -6,8 +6,9 @@ use mathlib.Core.List.{List, [], _∷_}
 use Prim.Native.Nat.{ℕ, suc, _≤_, _<_}
 use native.Mathlib.Omega.{arith}
 use lib.ListN.{length}
+use Rattle.lists.proofs.Less.{Less, here, there}
 use Rattle.heights.proofs.Heights.Part.{cmp}
-use Rattle.heights.proofs.Items.Item.{Item, count, count-nil, count-cons, Less, here, there}
+use Rattle.heights.proofs.Items.Item.{Item, count, count-nil, count-cons}
 use Rattle.heights.proofs.Items.Side.{next-bit, after, put, put-here, put-other, side}
 
 -- where the count falls there is an item
@@ -31,7 +32,7 @@ less-length (there l) = omega arith
 
 less-cons : {q x : Item} {X C : List Item} → Less q (x ∷ X) C → ((q ≡ x) × (C ≡ X)) ⊎ ((D : List Item) × (C ≡ x ∷ D) × Less q X D)
 less-cons here = inl (refl, refl)
-less-cons (there {B = D} l) = inr (D, refl, l)
+less-cons (there {L' = D} l) = inr (D, refl, l)
 
 -- an item that leaves a side is one of the list, without its next bit
 pub record FromSide (b : Bool) (A : List Item) (q : Item) (C : List Item) : Type 0 where

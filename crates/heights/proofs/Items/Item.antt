@@ -7,6 +7,7 @@ use native.Mathlib.Omega.{arith}
 use lib.Dec.{leb}
 use lib.ListN.{length}
 use borrow.Author.Tests.{leb-true, leb-false}
+use Rattle.lists.proofs.Less.{Less, here, there}
 use Rattle.heights.proofs.Heights.Part.{Part, _⊕_, Same, Out}
 
 pub record Item : Type 0 where
@@ -71,18 +72,13 @@ parts (F ∷ fs) = part F ∷ parts fs
 pub part-append : (n : ℕ) (A B : List Item) → Same n (part (A ++ B)) (part A ⊕ part B)
 part-append n A B = record { is = λ s h. count-append A B s }
 
--- B is A without one p
-pub data Less (p : Item) : List Item → List Item → Type 0 where
-  here : {A : List Item} → Less p (p ∷ A) A
-  there : {r : Item} {A B : List Item} → Less p A B → Less p (r ∷ A) (r ∷ B)
-
 pub less-low : {p : Item} {A B : List Item} → Less p A B → (s : ℕ) → s ≤ p .last → count A s ≡ suc (count B s)
-less-low {p} (here {A = A}) s h = omega (arith, count-cons p A s)
-less-low (there {r = r} {A = A} {B = B} l) s h = omega (arith, count-cons r A s, count-cons r B s, less-low l s h)
+less-low {p} (here {L = A}) s h = omega (arith, count-cons p A s)
+less-low (there {r = r} {L = A} {L' = B} l) s h = omega (arith, count-cons r A s, count-cons r B s, less-low l s h)
 
 pub less-high : {p : Item} {A B : List Item} → Less p A B → (s : ℕ) → p .last < s → count A s ≡ count B s
-less-high {p} (here {A = A}) s h = omega (arith, count-cons p A s)
-less-high (there {r = r} {A = A} {B = B} l) s h = omega (arith, count-cons r A s, count-cons r B s, less-high l s h)
+less-high {p} (here {L = A}) s h = omega (arith, count-cons p A s)
+less-high (there {r = r} {L = A} {L' = B} l) s h = omega (arith, count-cons r A s, count-cons r B s, less-high l s h)
 
 -- an item in date leaves
 pub part-out : {n : ℕ} {p : Item} {A B : List Item} → Less p A B → n ≤ p .last → Out n (p .last) (part A) (part B)

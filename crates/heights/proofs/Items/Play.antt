@@ -4,10 +4,11 @@ use mathlib.Core.Logic.{_⊎_, inl, inr}
 use mathlib.Core.List.{List, [], _∷_, _++_}
 use Prim.Native.Nat.{ℕ, suc, _+_, _≤_, _<_}
 use native.Mathlib.Omega.{arith}
+use Rattle.lists.proofs.Less.{Less, here, there}
 use Rattle.heights.proofs.Heights.Part.{cmp}
 use Rattle.heights.proofs.Trees.Tree.{same-tree-refl}
 use Rattle.heights.proofs.Trees.Run.{starts, Count}
-use Rattle.heights.proofs.Items.Item.{Item, count, Less, here, there, Bits, Each, each-append}
+use Rattle.heights.proofs.Items.Item.{Item, count, Bits, Each, each-append}
 use Rattle.heights.proofs.Items.Tree.{tree}
 use Rattle.heights.proofs.Items.Find.{no-regret-item}
 use Rattle.heights.proofs.Items.Run.{ItemRun, stop, rest, take}

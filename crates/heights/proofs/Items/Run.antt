@@ -5,6 +5,7 @@ use mathlib.Core.Bool.{Bool}
 use mathlib.Core.List.{List, [], _∷_, _++_}
 use Prim.Native.Nat.{ℕ, suc, _+_, _≤_}
 use native.Mathlib.Omega.{arith}
+use Rattle.lists.proofs.Less.{Less}
 use Rattle.heights.proofs.Heights.Part.{Same, same-refl, same-sym, same-trans}
 use Rattle.heights.proofs.Schedule.Run as Parts
 use Rattle.heights.proofs.Schedule.Run.{AnyStep, Schedule, schedule-same, sum}
@@ -12,7 +13,7 @@ use Rattle.heights.proofs.Trees.Tree.{total-same, total, join-tree, Sam
 use Rattle.heights.proofs.Trees.NoRegret.{NoRegret}
 use Rattle.heights.proofs.Trees.Run as Trees
 use Rattle.heights.proofs.Trees.Run.{starts, starts-nil, Count, Run, run-same}
-use Rattle.heights.proofs.Items.Item.{Item, count, part, parts, part-append, part-out, Less}
+use Rattle.heights.proofs.Items.Item.{Item, count, part, parts, part-append, part-out}
 use Rattle.heights.proofs.Items.Tree.{tree, total-tree, tree-append, slots}
 
 -- in each slot an item p of order j leaves and B is left, or none is in date

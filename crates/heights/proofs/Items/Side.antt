@@ -4,7 +4,8 @@ use mathlib.Core.Bool.{Bool, true, false, not}
 use mathlib.Core.List.{List, [], _∷_, _++_}
 use Prim.Native.Nat.{ℕ, _+_}
 use native.Mathlib.Omega.{arith}
-use Rattle.heights.proofs.Items.Item.{Item, count, count-nil, count-cons, Less, here, there}
+use Rattle.lists.proofs.Less.{Less, here, there}
+use Rattle.heights.proofs.Items.Item.{Item, count, count-nil, count-cons}
 
 unfoldable pub next-bit : List Bool → Bool
 next-bit [] = false
@@ -85,15 +86,15 @@ put-less false false r A B l = there l
 -- an item leaves its side
 pub side-less : {p : Item} {A B : List Item} → Less p A B → Less (after p) (side (next-bit (p .grade)) A) (side (next-bit (p .grade)) B)
 unfolding side
-side-less {p} (here {A = A}) =
+side-less {p} (here {L = A}) =
     let b = next-bit (p .grade) in
     subst (λ X. Less (after p) X (side b A)) (sym (put-here b (after p) (side b A))) here
-side-less {p} (there {r = r} {A = A} {B = B} l) =
+side-less {p} (there {r = r} {L = A} {L' = B} l) =
     let b = next-bit (p .grade) in
     put-less b (next-bit (r .grade)) (after r) (side b A) (side b B) (side-less l)
 
 -- and the other side stays
 pub side-kept : {p : Item} {A B : List Item} → Less p A B → side (not (next-bit (p .grade))) A ≡ side (not (next-bit (p .grade))) B
 unfolding side
-side-kept {p} (here {A = A}) = let b = next-bit (p .grade) in put-other b (after p) (side (not b) A)
-side-kept {p} (there {r = r} {A = A} {B = B} l) = ap (put (not (next-bit (p .grade))) (next-bit (r .grade)) (after r)) (side-kept l)
+side-kept {p} (here {L = A}) = let b = next-bit (p .grade) in put-other b (after p) (side (not b) A)
+side-kept {p} (there {r = r} {L = A} {L' = B} l) = ap (put (not (next-bit (p .grade))) (next-bit (r .grade)) (after r)) (side-kept l)

@@ -6,9 +6,10 @@ use mathlib.Core.List.{List, [], _∷_, _++_}
 use Prim.Native.Nat.{ℕ, zero, suc, _+_, _≤_, _<_}
 use native.Mathlib.Omega.{arith}
 use lib.ListN.{length}
+use Rattle.lists.proofs.Less.{Less}
 use Rattle.heights.proofs.Sides.Board.{Slot, served}
 use Rattle.heights.proofs.Trees.Tree.{Tree, total, join-tree, SameTree, OutTree, same-tree-refl, total-join}
-use Rattle.heights.proofs.Items.Item.{Item, count, count-cons, count-append, part, part-out, part-expired, Less}
+use Rattle.heights.proofs.Items.Item.{Item, count, count-cons, count-append, part, part-out, part-expired}
 use Rattle.heights.proofs.Items.Side.{next-bit, more-bits, after, put, side, side-append, side-sum, side-less, side-kept}
 
 unfoldable pub tree : (d : ℕ) → List Item → Tree d

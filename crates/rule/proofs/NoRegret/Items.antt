@@ -1,17 +1,17 @@
 -- Jobs as items: last slot and bits of the grade. Their counts are those of the list, and the items of a side are the jobs with that next bit.
-use mathlib.Core.Path.{_≡_, refl, sym, ap, subst, _∙_}
+use mathlib.Core.Path.{_≡_, refl, sym, ap, _∙_}
 use mathlib.Core.Bool.{Bool, true, false, _&&_, Bool·beq, cond}
-use mathlib.Core.List.{List, [], _∷_, List·Memᴰ, List·Memᴰ·head, List·Memᴰ·tail}
+use mathlib.Core.List.{List, [], _∷_}
 use Prim.Native.Nat.{ℕ, suc, _/_, _%_, _^_, _≤_}
 use native.Mathlib.Omega.{arith}
 use lib.Dec.{eqb}
 use Rattle.heights.proofs.Heights.Part.{Same}
 use Rattle.heights.proofs.Trees.Tree.{total, OutTree}
 use Rattle.heights.proofs.Items.Item.{Item, count, count-nil, count-cons}
-use Rattle.heights.proofs.Items.Item as I
 use Rattle.heights.proofs.Items.Side.{next-bit, more-bits, put, side}
 use Rattle.heights.proofs.Items.Tree.{tree, total-tree, tree-out}
 use Rattle.lists.specs.Select.{select}
+use Rattle.lists.proofs.Less.{Less, here, there}
 use Rattle.rule.specs.Job.{Job}
 use Rattle.rule.specs.Grade.{bits, starts, graded, starting}
 use Rattle.rule.proofs.Bits.Number.{length-bits}
@@ -64,23 +64,10 @@ items-side e b (r ∷ A) =
     go false true = unfold put in refl
     go false false = unfold put in refl
 
--- L' is L without one p
-pub data Less (p : Job) : List Job → List Job → Type 0 where
-  here : {L : List Job} → Less p (p ∷ L) L
-  there : {r : Job} {L L' : List Job} → Less p L L' → Less p (r ∷ L) (r ∷ L')
-
-pub less-mem : {p : Job} {L L' : List Job} → Less p L L' → List·Memᴰ p L
-less-mem here = List·Memᴰ·head refl
-less-mem (there l) = List·Memᴰ·tail (less-mem l)
-
-pub mem-less : {p : Job} {L : List Job} → List·Memᴰ p L → (L' : List Job) × Less p L L'
-mem-less {p} (List·Memᴰ·head {x = r} {xs = L} e) = (L, subst (λ x. Less p (x ∷ L) L) e here)
-mem-less (List·Memᴰ·tail {x = r} m) = let s = mem-less m in (r ∷ s .0, there (s .1))
-
-pub less-items : (d : ℕ) {p : Job} {L L' : List Job} → Less p L L' → I.Less (item d p) (items d L) (items d L')
+pub less-items : (d : ℕ) {p : Job} {L L' : List Job} → Less p L L' → Less (item d p) (items d L) (items d L')
 unfolding items
-less-items d here = I.here
-less-items d (there l) = I.there (less-items d l)
+less-items d here = here
+less-items d (there l) = there (less-items d l)
 
 -- p leaves the tree with its bits
 pub items-out : (d now : ℕ) {p : Job} {L L' : List Job} → Less p L L' → now ≤ p .last

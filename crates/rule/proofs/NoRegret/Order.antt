@@ -14,12 +14,13 @@ use Rattle.lists.proofs.Members.{select-select, select-cong, select-all}
 use Rattle.rule.specs.Job.{Job, in-date}
 use Rattle.rule.specs.Grade.{bits, graded, starting}
 use Rattle.rule.specs.Descent.{next-bit, no-regret-after}
+use Rattle.lists.proofs.Less.{Less, less-mem, mem-less}
 use Rattle.rule.proofs.Bits.Starts.{same-bit, bit-same}
 use Rattle.rule.proofs.Tight.Counts.{AllInDate, in-date-all}
 use Rattle.rule.proofs.Tight.Slot.{tight-last}
 use Rattle.rule.proofs.NoRegret.Within.{starting-mem, mem-starting, tight-in, after-mem}
 use Rattle.rule.proofs.NoRegret.ByBit.{by-bit, after-by-bit}
-use Rattle.rule.proofs.NoRegret.Items.{items, items-side, first-bit, graded-first, Less, less-mem, mem-less, items-out}
+use Rattle.rule.proofs.NoRegret.Items.{items, items-side, first-bit, graded-first, items-out}
 use Rattle.rule.proofs.NoRegret.Chosen.{dated, mem-dated, next-bit-chosen}
 use Rattle.rule.proofs.NoRegret.Leaf.{tight-leaf, leaf-tight}
 
