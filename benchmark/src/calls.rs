@@ -8,9 +8,9 @@ use std::hint::black_box;
 use std::time::{Duration, Instant};
 
 /// Calls timed together.
-const REPEATS: u32 = 400;
-/// The least of so many timings counts.
-const TRIALS: u32 = 5;
+const REPEATS: u32 = 100;
+/// In each round every call is timed once, so that a slow spell of the machine meets all of them.
+const ROUNDS: u32 = 40;
 
 /// How laxities and grades lie on a board.
 #[derive(Clone, Copy)]
@@ -35,65 +35,89 @@ pub fn board(held: u32, spread: Spread) -> Board {
                 Spread::OneGrade => 5,
                 _ => draw.between(0, 7),
             };
-            Job { ticket: i + 1, admitted, deadline, grade }
+            Job {
+                ticket: i + 1,
+                admitted,
+                deadline,
+                grade,
+            }
         })
         .collect();
     Board::holding(3, slot, held, &jobs)
 }
 
-/// The least time of a call.
-fn least(mut call: impl FnMut()) -> Duration {
-    let trial = |_| {
-        let began = Instant::now();
-        (0..REPEATS).for_each(|_| call());
-        began.elapsed() / REPEATS
-    };
-    (0..TRIALS).map(trial).min().unwrap_or_default()
+/// Takes a result, so that the compiler cannot leave out what made it.
+fn keep<T>(result: T) {
+    let _ = black_box(result);
+}
+
+/// The least time of each call over all rounds.
+fn least<const N: usize>(mut calls: [&mut dyn FnMut(); N]) -> [Duration; N] {
+    let mut best = [Duration::MAX; N];
+    for _ in 0..ROUNDS {
+        for (call, least) in calls.iter_mut().zip(&mut best) {
+            let began = Instant::now();
+            (0..REPEATS).for_each(|_| call());
+            *least = (*least).min(began.elapsed() / REPEATS);
+        }
+    }
+    best
 }
 
 fn show(name: &str, ours: Duration, model: Duration, sorted: Option<Duration>) {
     let ratio = |other: Duration| ours.as_secs_f64() / other.as_secs_f64();
-    let beside = sorted.map_or(String::new(), |time| format!(", {:.2} of sorting ({time:.1?})", ratio(time)));
-    println!("{name}: {ours:.1?}, {:.2} of the model ({model:.1?}){beside}", ratio(model));
+    let beside = sorted.map_or(String::new(), |time| {
+        format!(", {:.2} of sorting ({time:.1?})", ratio(time))
+    });
+    println!(
+        "{name}: {ours:.1?}, {:.2} of the model ({model:.1?}){beside}",
+        ratio(model)
+    );
 }
 
 /// Closes a board; the lent lists are cleared once, before all calls.
 pub fn closing(name: &str, board: &Board) {
     let given = boundary::board(board);
     let (mut tickets, mut grades, mut slots) = ([0; 256], [0; 256], [0; 256]);
-    let ours = least(|| {
-        black_box(boundary::close(black_box(given), &mut tickets, &mut grades, &mut slots));
-    });
-    let model = least(|| {
-        let _ = black_box(calls::close(&mut black_box(board.clone()), 256));
-    });
-    let sorted = least(|| {
-        let _ = black_box(calls::close_with(&mut black_box(board.clone()), 256, benchmark::job_to_bake));
-    });
+    let by_sorting =
+        |jobs: &[Job], slot, depth| benchmark::job_to_bake(&mut jobs.to_vec(), slot, depth);
+    let [ours, model, sorted] = least([
+        &mut || {
+            keep(boundary::close(
+                black_box(given),
+                &mut tickets,
+                &mut grades,
+                &mut slots,
+            ))
+        },
+        &mut || keep(calls::close(&mut black_box(board.clone()), 256)),
+        &mut || {
+            keep(calls::close_with(
+                &mut black_box(board.clone()),
+                256,
+                by_sorting,
+            ))
+        },
+    ]);
     show(name, ours, model, Some(sorted));
-}
-
-/// Opens a board, which does little else than to hand one over; and asks whether a board is sound.
-pub fn parts(board: &Board) {
-    let given = boundary::board(board);
-    let opening = least(|| {
-        black_box(boundary::open(black_box(3)));
-    });
-    let soundness = least(|| {
-        black_box(boundary::sound(black_box(given)));
-    });
-    println!("of these: a board made and handed over {opening:.1?}, a check of soundness {soundness:.1?}");
 }
 
 /// Admits one rack more on a board.
 pub fn admitting(name: &str, board: &Board) {
     let given = boundary::board(board);
     let ticket = board.highest_ticket + 1;
-    let ours = least(|| {
-        black_box(boundary::admit(black_box(given), ticket, 9, 4));
-    });
-    let model = least(|| {
-        let _ = black_box(calls::admit(&mut black_box(board.clone()), ticket, 9, 4));
-    });
+    let [ours, model] = least([
+        &mut || keep(boundary::admit(black_box(given), ticket, 9, 4)),
+        &mut || keep(calls::admit(&mut black_box(board.clone()), ticket, 9, 4)),
+    ]);
     show(name, ours, model, None);
+}
+
+/// Opens a board, which does little else than to hand one over; and asks whether a board is sound.
+pub fn parts(board: &Board) {
+    let given = boundary::board(board);
+    let [opening, soundness] = least([&mut || keep(boundary::open(black_box(3))), &mut || {
+        keep(boundary::sound(black_box(given)))
+    }]);
+    println!("of these: a board made and handed over {opening:.1?}, a check of soundness {soundness:.1?}");
 }

@@ -1,9 +1,11 @@
 //! Whole days through the programs, bytes in to bytes out.
 
 use model::draw::Draw;
+use std::collections::hash_map::DefaultHasher;
 use std::fmt::Write as _;
 use std::fs::{self, File};
-use std::io;
+use std::hash::{Hash, Hasher};
+use std::io::{self, BufRead, BufReader};
 use std::path::Path;
 use std::process::{Command, Stdio};
 use std::thread;
@@ -42,37 +44,65 @@ fn once(program: &str, input: &Path, output: &Path) -> io::Result<(Duration, u64
 fn peak_memory(status: &str) -> u64 {
     let text = fs::read_to_string(status).unwrap_or_default();
     let line = text.lines().find_map(|line| line.strip_prefix("VmHWM:"));
-    line.and_then(|rest| rest.split_whitespace().next()?.parse().ok()).unwrap_or(0)
+    line.and_then(|rest| rest.split_whitespace().next()?.parse().ok())
+        .unwrap_or(0)
 }
 
-/// The lines of an output, those of the racks given up in one slot sorted, since their order is left open.
-fn printed_lines(output: &Path) -> io::Result<Vec<String>> {
-    let mut lines: Vec<String> = fs::read_to_string(output)?.lines().map(String::from).collect();
-    for given_up in lines.split_mut(|line| !line.starts_with('G')) {
+/// A number that stands for the lines of an output, those of the racks given up in one slot sorted, since their order is left open.
+fn fingerprint(output: &Path) -> io::Result<u64> {
+    let (mut hasher, mut given_up) = (DefaultHasher::new(), Vec::new());
+    for line in BufReader::new(File::open(output)?).lines() {
+        let line = line?;
+        if line.starts_with('G') {
+            given_up.push(line);
+            continue;
+        }
         given_up.sort_unstable();
+        given_up.hash(&mut hasher);
+        given_up.clear();
+        line.hash(&mut hasher);
     }
-    Ok(lines)
+    given_up.sort_unstable();
+    given_up.hash(&mut hasher);
+    Ok(hasher.finish())
 }
 
-/// Runs the three programs on one day in turn, three times over; the least time of each counts.
-pub fn day(name: &str, programs: &[String], folder: &Path, slots: u32, racks: u32) -> io::Result<()> {
+/// Runs the three programs on one day in turn, so many times over; the least time of each counts.
+pub fn day(
+    programs: &[String],
+    folder: &Path,
+    slots: u32,
+    racks: u32,
+    rounds: u32,
+) -> io::Result<()> {
     let (input, output) = (folder.join("day.txt"), folder.join("day.out"));
     fs::write(&input, lines(slots, racks))?;
     let mut best = vec![(Duration::MAX, 0); programs.len()];
     let mut expected = None;
-    for _ in 0..3 {
+    for _ in 0..rounds {
         for (program, least) in programs.iter().zip(&mut best) {
             let (time, peak) = once(program, &input, &output)?;
             *least = (least.0.min(time), least.1.max(peak));
-            let printed = printed_lines(&output)?;
-            assert!(expected.get_or_insert_with(|| printed.clone()) == &printed, "{program} prints something else");
+            let printed = fingerprint(&output)?;
+            assert!(
+                *expected.get_or_insert(printed) == printed,
+                "{program} prints something else"
+            );
         }
     }
     let ours = best[0];
     let beside: Vec<String> = best[1..]
         .iter()
-        .map(|&(time, peak)| format!("{:.2} ({time:.2?}, {peak} kB)", ours.0.as_secs_f64() / time.as_secs_f64()))
+        .map(|&(time, peak)| {
+            format!(
+                "{:.2} ({time:.2?}, {peak} kB)",
+                ours.0.as_secs_f64() / time.as_secs_f64()
+            )
+        })
         .collect();
-    println!("{name}: {:.2?}, {} kB; of the model {}; of sorting {}", ours.0, ours.1, beside[0], beside[1]);
+    println!(
+        "a day of {slots} slots, {racks} racks each: {:.2?}, {} kB; of the model {}; of sorting {}",
+        ours.0, ours.1, beside[0], beside[1]
+    );
     Ok(())
 }

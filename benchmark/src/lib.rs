@@ -1,19 +1,34 @@
-//! The rule by sorting, for comparison: at every level the group is sorted by last slot, and its tight set is a beginning of it.
+//! The rule by sorting, for comparison: at every level the group is sorted by last slot in place, and its tight set is a beginning of it.
 
 use model::board::Job;
 use model::rule::bit;
 
-/// The rack to bake; none where there are no racks.
-pub fn job_to_bake(jobs: &[Job], slot: u32, depth: u32) -> Option<Job> {
-    let mut group = jobs.to_vec();
+/// The rack to bake; none where there are no racks. The racks are left in another order.
+pub fn job_to_bake(jobs: &mut [Job], slot: u32, depth: u32) -> Option<Job> {
+    let mut group = jobs;
     for place in 0..depth as usize {
-        let tight = tight_by_sorting(&mut group, slot);
-        let has_zero = group[..tight].iter().any(|job| bit(job.grade, depth, place) == 0);
+        let tight = tight_by_sorting(group, slot);
+        let has_zero = group[..tight]
+            .iter()
+            .any(|job| bit(job.grade, depth, place) == 0);
         let wanted = u32::from(!has_zero);
-        group.retain(|job| bit(job.grade, depth, place) == wanted);
+        let held = move_to_front(group, |job| bit(job.grade, depth, place) == wanted);
+        group = &mut group[..held];
     }
-    tight_by_sorting(&mut group, slot);
+    tight_by_sorting(group, slot);
     group.first().copied()
+}
+
+/// Moves the racks that pass to the front, and counts them.
+fn move_to_front(group: &mut [Job], passes: impl Fn(&Job) -> bool) -> usize {
+    let mut held = 0;
+    for i in 0..group.len() {
+        if passes(&group[i]) {
+            group.swap(held, i);
+            held += 1;
+        }
+    }
+    held
 }
 
 /// Sorts a group by last slot, then ticket, and gives the length of its tight set.

@@ -14,16 +14,32 @@ use std::{env, fs, io};
 fn main() -> io::Result<()> {
     let programs: Vec<String> = env::args().skip(1).collect();
     for held in [32, 64, 128, 256] {
-        calls::closing(&format!("closing, {held} racks"), &calls::board(held, Spread::Both));
+        calls::closing(
+            &format!("closing, {held} racks"),
+            &calls::board(held, Spread::Both),
+        );
     }
-    calls::closing("closing, 256 of one grade", &calls::board(256, Spread::OneGrade));
-    calls::closing("closing, 256 of one wait", &calls::board(256, Spread::OneLaxity));
+    calls::closing(
+        "closing, 256 of one grade",
+        &calls::board(256, Spread::OneGrade),
+    );
+    calls::closing(
+        "closing, 256 of one wait",
+        &calls::board(256, Spread::OneLaxity),
+    );
     calls::admitting("admitting on 255 racks", &calls::board(255, Spread::Both));
     calls::parts(&calls::board(256, Spread::Both));
     let folder = env::temp_dir().join(format!("oven-benchmark-{}", std::process::id()));
     fs::create_dir_all(&folder)?;
-    for (slots, racks) in [(25_000, 8), (50_000, 8), (100_000, 8), (100_000, 2), (1_000_000, 2)] {
-        days::day(&format!("a day of {slots} slots, {racks} racks each"), &programs, &folder, slots, racks)?;
+    for (slots, racks, rounds) in [
+        (25_000, 8, 5),
+        (50_000, 8, 5),
+        (100_000, 8, 5),
+        (100_000, 2, 5),
+        (1_000_000, 2, 3),
+        (1_000_000, 8, 1),
+    ] {
+        days::day(&programs, &folder, slots, racks, rounds)?;
     }
     fs::remove_dir_all(&folder)
 }

@@ -1,14 +1,13 @@
-//! The oven board's program with the rule by sorting and without a check of soundness: what a programmer in a hurry would write.
+//! The oven board's program written for speed alone: the racks stand in a vector that the rule sorts in place, soundness is not checked, and text is
+//! made nowhere but in the output's buffer.
 
 use model::board::Job;
-use model::calls::{Closed, Expired};
 use model::limits::{DEEPEST, MOST_HELD};
 use model::lines::{self, Request};
-use model::printing;
 use model::refusal::Refusal;
 use model::rows::{self, Standing};
 use model::tally::{Tally, ADMITTED, BAKED, EXPIRED};
-use std::io::{self, BufWriter, Read, Write};
+use std::io::{self, BufRead, BufWriter, Write};
 
 /// The open board, if there is one, and the tally.
 #[derive(Default)]
@@ -18,76 +17,121 @@ struct Day {
     tally: Tally,
 }
 
+/// What a line leads to: a refusal, or its answer written.
+type Taken = Result<io::Result<()>, Refusal>;
+
 impl Day {
-    fn take(&mut self, line: &[u8], output: &mut impl Write) -> Result<io::Result<()>, Refusal> {
-        let request = lines::read(line)?;
-        match (request, self.standing) {
-            (Request::Open { depth }, None) => self.open(depth).map(|text| writeln!(output, "{text}")),
-            (Request::Admit { ticket, laxity, grade }, Some(at)) => {
-                let text = self.admit(at, ticket, laxity, grade.unwrap_or(0))?;
-                Ok(writeln!(output, "{text}"))
-            }
-            (Request::Close, Some(at)) => {
-                let printed = self.close(at)?;
-                Ok(printed.iter().try_for_each(|text| writeln!(output, "{text}")))
-            }
+    fn take(&mut self, line: &[u8], output: &mut impl Write) -> Taken {
+        match (lines::read(line)?, self.standing) {
+            (Request::Open { depth }, None) => self.open(depth, output),
+            (
+                Request::Admit {
+                    ticket,
+                    laxity,
+                    grade,
+                },
+                Some(at),
+            ) => self.admit(at, ticket, laxity, grade.unwrap_or(0), output),
+            (Request::Close, Some(at)) => self.close(at, output),
             _ => Err(Refusal::NotNow),
         }
     }
 
-    fn open(&mut self, depth: u32) -> Result<String, Refusal> {
+    fn open(&mut self, depth: u32, output: &mut impl Write) -> Taken {
         if depth > DEEPEST {
             return Err(Refusal::Depth);
         }
-        self.standing = Some(Standing { depth, slot: 1, highest_ticket: 0, admitted_now: 0 });
-        Ok(printing::opened(depth))
+        self.standing = Some(Standing {
+            depth,
+            slot: 1,
+            highest_ticket: 0,
+            admitted_now: 0,
+        });
+        Ok(writeln!(output, "D,{depth}"))
     }
 
-    fn admit(&mut self, at: Standing, ticket: u32, laxity: u32, grade: u32) -> Result<String, Refusal> {
+    fn admit(
+        &mut self,
+        at: Standing,
+        ticket: u32,
+        laxity: u32,
+        grade: u32,
+        output: &mut impl Write,
+    ) -> Taken {
         rows::admitting(at, ticket, laxity, grade)?;
         let deadline = at.slot + laxity - 1;
-        self.jobs.push(Job { ticket, admitted: at.slot, deadline, grade });
+        self.jobs.push(Job {
+            ticket,
+            admitted: at.slot,
+            deadline,
+            grade,
+        });
         let admitted_now = at.admitted_now + 1;
-        self.standing = Some(Standing { highest_ticket: ticket, admitted_now, ..at });
+        self.standing = Some(Standing {
+            highest_ticket: ticket,
+            admitted_now,
+            ..at
+        });
         self.tally.record(ADMITTED, grade)?;
-        Ok(printing::admitted(ticket, deadline))
+        Ok(writeln!(output, "A,{ticket},{deadline}"))
     }
 
-    fn close(&mut self, at: Standing) -> Result<Vec<String>, Refusal> {
+    fn close(&mut self, at: Standing, output: &mut impl Write) -> Taken {
         rows::closing(at, MOST_HELD)?;
-        let baked = benchmark::job_to_bake(&self.jobs, at.slot, at.depth);
-        let mut closed = Closed { ticket: 0, grade: 0, expired: Vec::new() };
-        if let Some(job) = baked {
-            self.tally.record(BAKED, job.grade)?;
-            closed.ticket = job.ticket;
-            closed.grade = job.grade;
-            self.jobs.retain(|other| other.ticket != job.ticket);
+        let baked = benchmark::job_to_bake(&mut self.jobs, at.slot, at.depth).unwrap_or_default();
+        if baked.ticket != 0 {
+            self.tally.record(BAKED, baked.grade)?;
         }
+        self.jobs.retain(|job| job.ticket != baked.ticket);
         for job in self.jobs.iter().filter(|job| job.deadline == at.slot) {
             self.tally.record(EXPIRED, job.grade)?;
-            closed.expired.push(Expired { ticket: job.ticket, grade: job.grade, admitted: job.admitted });
         }
+        let written = self.write_closed(at.slot, baked, output);
         self.jobs.retain(|job| job.deadline != at.slot);
-        self.standing = Some(Standing { slot: at.slot + 1, admitted_now: 0, ..at });
-        Ok(printing::closed(at.slot, &closed))
+        self.standing = Some(Standing {
+            slot: at.slot + 1,
+            admitted_now: 0,
+            ..at
+        });
+        Ok(written)
+    }
+
+    /// Writes a B line, and a G line for each rack given up.
+    fn write_closed(&self, slot: u32, baked: Job, output: &mut impl Write) -> io::Result<()> {
+        let given_up = || self.jobs.iter().filter(|job| job.deadline == slot);
+        writeln!(
+            output,
+            "B,{slot},{},{},{}",
+            baked.ticket,
+            baked.grade,
+            given_up().count()
+        )?;
+        given_up().try_for_each(|job| writeln!(output, "G,{slot},{},{}", job.ticket, job.grade))
     }
 }
 
 fn main() -> io::Result<()> {
-    let mut input = io::stdin().lock().bytes();
-    let mut output = BufWriter::new(io::stdout().lock());
-    let mut day = Day::default();
-    let mut line_number = 0;
-    while let Some(line) = lines::next_line(&mut input)? {
+    let mut input = io::stdin().lock();
+    let mut output = BufWriter::with_capacity(1 << 16, io::stdout().lock());
+    let (mut day, mut line, mut line_number) = (Day::default(), Vec::new(), 0);
+    while input.read_until(b'\n', &mut line)? > 0 {
         line_number += 1;
-        match day.take(&line, &mut output) {
+        match day.take(line.strip_suffix(b"\n").unwrap_or(&line), &mut output) {
             Ok(written) => written?,
-            Err(refusal) => writeln!(output, "{}", printing::refused(line_number, refusal))?,
+            Err(refusal) => writeln!(output, "R,{line_number},{}", refusal.number())?,
         }
+        line.clear();
     }
     let grades = day.standing.map_or(0, |at| 1u32 << at.depth);
     for grade in 0..grades {
-        writeln!(output, "{}", printing::total(&day.tally, grade))?;
+        let count = |kind| day.tally.count(kind, grade);
+        writeln!(
+            output,
+            "T,{grade},{},{},{}",
+            count(ADMITTED),
+            count(BAKED),
+            count(EXPIRED)
+        )?;
     }
     output.flush()
 }
