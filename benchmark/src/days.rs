@@ -34,11 +34,14 @@ fn once(program: &str, input: &Path, output: &Path) -> io::Result<(Duration, u64
         .spawn()?;
     let status = format!("/proc/{}/status", child.id());
     let mut peak = 0;
-    while child.try_wait()?.is_none() {
+    loop {
+        if let Some(ended) = child.try_wait()? {
+            assert!(ended.success(), "{program} failed");
+            return Ok((began.elapsed(), peak));
+        }
         peak = peak.max(peak_memory(&status));
         thread::sleep(Duration::from_millis(1));
     }
-    Ok((began.elapsed(), peak))
 }
 
 fn peak_memory(status: &str) -> u64 {
