@@ -9,7 +9,6 @@ ghost use Rattle.entries.specs.Parts.{entry-at, Gathered};
 use board::Board;
 use board::Closed;
 use board::Slot;
-use calls::close;
 
 // 'One entry a rack: ticket, grade, admitted slot.'
 #[repr(C)]
@@ -40,8 +39,8 @@ fn closing(b: Board, lent: usize) -> Gone
     let mut tickets = [0u32; Board::PLACES];
     let mut grades = [0u8; Board::PLACES];
     let mut slots = [0u32; Board::PLACES];
-    let n = close::lesser(lent, Board::PLACES);
-    let answer = close::close(b, &mut tickets[..n], &mut grades[..n], &mut slots[..n]);
+    let n = lists::lesser(lent, Board::PLACES);
+    let answer = calls::close::close(b, &mut tickets[..n], &mut grades[..n], &mut slots[..n]);
     let count = answer.expired as usize;
     let parts = Parts {
         tickets,
