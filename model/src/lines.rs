@@ -1,6 +1,6 @@
 //! Reading: from bytes to lines, and from a line to what it asks for.
 
-use std::io;
+use std::io::{self, BufRead};
 
 use crate::limits::{LONGEST_LINE, MOST_DIGITS};
 use crate::refusal::Refusal;
@@ -20,25 +20,15 @@ pub enum Request {
     Close,
 }
 
-/// The next line without its end, or none at the end of the input.
-///
-/// Of a line longer than allowed one byte too many is kept, enough to see it.
-pub fn next_line<B>(bytes: &mut B) -> io::Result<Option<Vec<u8>>>
-where
-    B: Iterator<Item = io::Result<u8>>,
-{
+/// The next line without its end, or none at the end of the input: 'a line ends at
+/// byte 10 or at the end of input, and no line follows a byte 10 that is the last byte'.
+pub fn next_line<R: BufRead>(input: &mut R) -> io::Result<Option<Vec<u8>>> {
     let mut line = Vec::new();
-    for byte in bytes {
-        let byte = byte?;
-        if byte == b'\n' {
-            return Ok(Some(line));
-        }
-        if line.len() <= LONGEST_LINE {
-            line.push(byte);
-        }
-    }
-    if line.is_empty() {
+    if input.read_until(b'\n', &mut line)? == 0 {
         return Ok(None);
+    }
+    if line.last() == Some(&b'\n') {
+        line.pop();
     }
     Ok(Some(line))
 }

@@ -91,11 +91,10 @@ impl Day {
 
 /// Reads the input line by line and writes what the program prints; the state at
 /// the end is handed back. No more than one line is held at a time.
-pub fn run<R: BufRead, W: Write>(input: R, output: &mut W) -> io::Result<Day> {
+pub fn run<R: BufRead, W: Write>(mut input: R, output: &mut W) -> io::Result<Day> {
     let mut day = Day::default();
-    let mut bytes = input.bytes();
     let mut line_number: u64 = 0;
-    while let Some(line) = lines::next_line(&mut bytes)? {
+    while let Some(line) = lines::next_line(&mut input)? {
         line_number += 1;
         match day.take(&line) {
             Ok(printed) => write_lines(output, &printed)?,

@@ -3,3 +3,4 @@ pub mod Admitting
 pub mod Closing
 pub mod Answering
 pub mod Feeding
+pub mod Running

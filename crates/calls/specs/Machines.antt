@@ -2,7 +2,7 @@
 use mathlib.Core.Path.{_≡_}
 use mathlib.Core.Bool.{true, cond, not}
 use mathlib.Core.List.{[], _∷_}
-use Prim.Native.Nat.{ℕ, _+_, _≤_, _<_}
+use Prim.Native.Nat.{ℕ, _+_, _*_, _≤_, _<_}
 use lib.Dec.{eqb}
 use lib.ListN.{length, take, drop, getD}
 use Rattle.lists.specs.Select.{every}
@@ -54,6 +54,7 @@ pub record TakenIn (desk : Desk) (chunk : Bytes) (from : ℕ) (out : Bytes) (at 
   pub number : r .desk .number + from ≤ desk .number + r .used
   pub machine : machine-of (r .desk) ≡ after-bytes (machine-of desk) (used-bytes chunk from (r .used))
   pub end : r .at ≡ at + length (printed-along (machine-of desk) (used-bytes chunk from (r .used)))
+  pub few : r .at + line-room * from ≤ at + line-room * r .used
   pub fits : r .at ≤ length out
   pub bytes : out' ≡ put out at (printed-along (machine-of desk) (used-bytes chunk from (r .used)))
 
@@ -61,14 +62,6 @@ pub record TakenIn (desk : Desk) (chunk : Bytes) (from : ℕ) (out : Bytes) (at 
 pub record GoesOn (chunk : Bytes) (from : ℕ) (out : Bytes) (at : ℕ) (r : Fed) : Type 0 where
   pub further : at + line-room ≤ length out → from < length chunk → from < r .used
   pub to-the-end : r .at + line-room ≤ length out → r .used ≡ length chunk
-
--- a whole chunk taken in
-pub record WholeTaken (desk : Desk) (chunk : Bytes) (out : Bytes) (r : Fed) : Type 0 where
-  pub good : GoodDay (r .desk .day)
-  pub held : r .desk .held .len ≤ 41
-  pub number : r .desk .number ≤ desk .number + length chunk
-  pub machine : machine-of (r .desk) ≡ after-bytes (machine-of desk) chunk
-  pub fits : r .at ≤ length out
 
 -- bytes that are enough for what the end of input prints: a line's answer, and T lines for 8 grades, 96 each
 unfoldable pub end-room : ℕ

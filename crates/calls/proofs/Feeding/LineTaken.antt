@@ -24,7 +24,7 @@ module _
   where
     pub taken-part : GoodDay (k .day) → h .len ≤ 41 → at ≤ length out
         → TakenIn k s from out at (record { desk = record { day = k .day; number = k .number; held = h }; used = to; at = at }) out
-    unfolding machine-of
+    unfolding machine-of line-room
     taken-part g n f =
         let p : printed-along (machine-of k) (used-bytes s from to) ≡ [] =
         part-printed (session-of (k .day)) (k .number) (held-bytes (k .held)) (used-bytes s from to) (l .one-line)
@@ -38,6 +38,7 @@ module _
           machine = ap (λ (x : Bytes). record { session = session-of (k .day); number = k .number; held = x }) e
               ∙ sym (part-after (session-of (k .day)) (k .number) (held-bytes (k .held)) (used-bytes s from to) (l .one-line));
           end = rw p (omega arith);
+          few = omega (arith, l .forward);
           fits = f;
           bytes = rw p (put-none out at);
         }
@@ -56,7 +57,7 @@ module _
 
       pub taken-line : (bytes : Bytes) → at + line-room ≤ length out
           → TakenIn k s from out at (record { desk = record { day = r .day; number = k .number + 1; held = record { bytes = bytes; len = 0 } }; used = to + 1; at = r .at }) out'
-      unfolding machine-of held-bytes
+      unfolding machine-of held-bytes line-room
       taken-line bytes f =
           record {
             good = a .good;
@@ -71,6 +72,7 @@ module _
                 ∙ sym (line-after (session-of (k .day)) (k .number) (held-bytes (k .held)) (used-bytes s from to) (l .one-line))
                 ∙ ap (after-bytes (machine-of k)) (sym used-line);
             end = a .end ∙ ap (λ (x : Bytes). at + length x) (sym printed-line);
+            few = omega (arith, l .forward, a .within);
             fits = omega (arith, a .within);
             bytes = a .bytes ∙ ap (put out at) (sym printed-line);
           }

@@ -20,7 +20,7 @@ use Rattle.calls.proofs.Feeding.Parts.{part-none, part-join}
 
 pub taken-none : (k : Desk) (s : Bytes) (from : ℕ) (out : Bytes) (at : ℕ) → GoodDay (k .day) → k .held .len ≤ 41 → from ≤ length s → at ≤ length out
     → TakenIn k s from out at (record { desk = k; used = from; at = at }) out
-unfolding after-bytes printed-along
+unfolding after-bytes printed-along line-room
 taken-none k s from out at g h l f =
     let e = part-none s from in
     record {
@@ -31,6 +31,7 @@ taken-none k s from out at g h l f =
       number = omega arith;
       machine = rw e;
       end = rw e (omega arith);
+      few = omega arith;
       fits = f;
       bytes = rw e (put-none out at);
     }
@@ -61,6 +62,7 @@ module _ {k : Desk} {s : Bytes} {from : ℕ} {out : Bytes} {at : ℕ} {f : Fed} 
     left = fewer-left first second out at mid (f .at) (all-left (first ++ second) out at) (omega (arith, a .end, a .fits)) (a .end) (a .bytes)
 
     pub taken-join : TakenIn k s from out at g last
+    unfolding line-room
     taken-join =
         let u = used-bytes s from (f .used) in
         let v = used-bytes s (f .used) (g .used) in
@@ -75,6 +77,7 @@ module _ {k : Desk} {s : Bytes} {from : ℕ} {out : Bytes} {at : ℕ} {f : Fed} 
               ∙ sym (after-append (machine-of k) u v)
               ∙ ap (after-bytes (machine-of k)) parts;
           end = b .end ∙ left .end ∙ ap (λ (x : Bytes). at + length x) (sym joined);
+          few = omega (arith, a .few, b .few);
           fits = omega (arith, b .fits, kept-length);
           bytes = b .bytes ∙ left .bytes ∙ ap (put out at) (sym joined);
         }

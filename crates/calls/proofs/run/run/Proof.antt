@@ -1,27 +1,24 @@
--- `run`: between two chunks the desk is good, and its line number is small.
+-- `run`: chunk by chunk, each written before the next is read.
+use mathlib.Core.List.{List}
 use mathlib.Core.Path.{_≡_, sym, _∙_}
-use Prim.Native.Nat.{_+_, _*_, _≤_}
+use Prim.Native.Nat.{ℕ, _+_, _-_, _≤_}
 use native.Mathlib.Omega.{arith}
 use borrow.Author.Needs.{needs}
-use lib.ListN.{length}
+use borrow.Author.Tests.{not-true, not-false}
+use lib.ListN.{length, take}
 use lib.Seq.{length-take-le}
-use Rattle.calls.specs.Days.{GoodDay, line-room}
-use Rattle.calls.specs.Machines.{end-room}
+use Rattle.streams.specs.Got.{Within}
+use Rattle.calls.specs.Days.{line-room}
+use Rattle.calls.specs.Runs.{buffer-length, most-read}
+use Rattle.calls.proofs.Running.Inputs.{SoFar, nothing-read, stopped, too-long, chunk-more, chunk-part}
 use Rattle.calls.proofs.run.run.Statement.{statement}
 use Rattle.calls.proofs.run.run.Tie as tie
 
--- a line number grows by a chunk's length at most
 abbrev Inv-loop : tie.InvT-loop
-Inv-loop desk₀ chunk₀ out₀ at₀ left₀ desk chunk out at left =
-    GoodDay (desk .day)
-    × (desk .held .len ≤ 41)
-    × (desk .number + 65536 * left ≤ 1 + 65536 * 1_099_511_627_776)
-    × (at ≤ 65536)
-    × (length chunk ≡ 65536)
-    × (length out ≡ 65536)
+Inv-loop desk₀ chunk₀ out₀ read₀ written₀ desk chunk out read written = SoFar desk read written × (length chunk ≡ buffer-length) × (length out ≡ buffer-length)
 
 abbrev μ-loop : tie.MeasureT-loop
-μ-loop desk₀ chunk₀ out₀ at₀ left₀ desk chunk out at left = left
+μ-loop desk₀ chunk₀ out₀ read₀ written₀ desk chunk out read written = most-read - read
 
 new-desk-requires : tie.Need-new-desk-requires Inv-loop μ-loop
 new-desk-requires c κs = search needs
@@ -33,97 +30,121 @@ large-buffer-requires-2 : tie.Need-large-buffer-requires-2 Inv-loop μ-loop
 large-buffer-requires-2 c κs = search needs
 
 loop-holds : tie.Need-loop-holds Inv-loop μ-loop
+unfolding buffer-length
 loop-holds c =
-    let n = c .before .before .new-desk .ensures in
-    (n .good, n .held, omega (arith, n .number), omega arith, sym (c .before .large-buffer .ensures), sym (c .large-buffer2 .ensures))
+    (nothing-read (c .before .before .new-desk .ensures), sym (c .before .large-buffer .ensures), sym (c .large-buffer2 .ensures))
 
-slice-aggregate-read : tie.Need-slice-aggregate-read Inv-loop μ-loop
-slice-aggregate-read c = search needs
+slice-aggregate-read-some : tie.Need-slice-aggregate-read-some Inv-loop μ-loop
+unfolding buffer-length
+slice-aggregate-read-some c = sym (c .before .before .loop .inv .1)
 
-read-requires : tie.Need-read-requires Inv-loop μ-loop
-read-requires c κs = search needs
+read-some-requires : tie.Need-read-some-requires Inv-loop μ-loop
+read-some-requires c κs = search needs
 
-slice-aggregate-count : tie.Need-slice-aggregate-count Inv-loop μ-loop
-slice-aggregate-count c = search needs
+enum-known-got : tie.Need-enum-known-got Inv-loop μ-loop
+enum-known-got c = search needs
 
-count-requires : tie.Need-count-requires Inv-loop μ-loop
-count-requires c κs = search needs
+slice-aggregate-stop : tie.Need-slice-aggregate-stop Inv-loop μ-loop
+unfolding buffer-length
+slice-aggregate-stop c = sym (c .before .before .before .before .before .before .loop .inv .2)
+
+stop-requires : tie.Need-stop-requires Inv-loop μ-loop
+unfolding most-read line-room
+stop-requires c κs =
+    let v = c .before .before .before .before .before .before .loop .inv in
+    let t = c .before .before .before .before .before .loop-test .taken in
+    (v .0 .good, (v .0 .held, v .2, omega (arith, v .0 .few, t)))
+
+returns : tie.Need-returns Inv-loop μ-loop
+returns c = stopped (c .before .before .before .before .before .before .before .before .loop .inv .0) (c .before .stop .ensures)
+
+-- bytes were read
+module _ (c : tie.After-got Inv-loop μ-loop) where
+  abbrev n : ℕ
+  n = c .got .given .0 .0
+
+  abbrev here : tie.At-loop Inv-loop μ-loop
+  here = c .before .before .before .before .before .before
+
+  abbrev chunk-read : List ℕ
+  chunk-read = c .before .before .before .read-some .last .1 .0
+
+  some : 1 ≤ n × (n ≤ buffer-length)
+  unfolding Within
+  some =
+      let e = c .before .before .before .read-some .ensures in
+      let w : (1 ≤ n) × (n ≤ length (here .loop .chunk)) = rw (c .got .given .1) at e in
+      (w .0, omega (arith, w .1, here .loop .inv .1))
+
+  full : length chunk-read ≡ buffer-length
+  full = c .before .before .before .read-some .kept .1 .0 ∙ here .loop .inv .1
+
+  as-many : length (take n chunk-read) ≡ n
+  as-many = length-take-le n chunk-read (omega (arith, some .1, full))
 
 array-share-prefix-chunk : tie.Need-array-share-prefix-chunk Inv-loop μ-loop
-array-share-prefix-chunk c = search needs
+unfolding buffer-length
+array-share-prefix-chunk c = omega (arith, some (c .before) .1, full (c .before))
 
 slice-aggregate-take-in : tie.Need-slice-aggregate-take-in Inv-loop μ-loop
-slice-aggregate-take-in c = search needs
+slice-aggregate-take-in c = sym (as-many (c .before .before))
 
 slice-aggregate-take-in-2 : tie.Need-slice-aggregate-take-in-2 Inv-loop μ-loop
-slice-aggregate-take-in-2 c = search needs
-
--- the bytes read are no more than the chunk has room for
-read-bytes : (c : tie.After-count Inv-loop μ-loop) → c .count .result ≤ 65536
-read-bytes c =
-    let r = c .before .before .before .before in
-    omega (arith, c .count .ensures .0 .0, r .read .kept, r .before .before .before .loop .inv .4)
+unfolding buffer-length
+slice-aggregate-take-in-2 c = sym (here (c .before .before .before) .loop .inv .2)
 
 take-in-requires : tie.Need-take-in-requires Inv-loop μ-loop
-unfolding line-room
+unfolding buffer-length most-read
 take-in-requires c κs =
-    let n = c .before .before in
-    let v = n .before .before .before .before .before .before .before .loop .inv in
-    (v .0, ((v .1, omega (arith, v .2, read-bytes n, n .count .ensures .0 .1)), (omega (arith, v .3, v .5), omega (arith, v .5))))
+    let g = c .before .before .before in
+    let v = here g .loop .inv in
+    let t = g .before .before .before .before .before .loop-test .taken in
+    (v .0 .good, ((v .0 .held, omega (arith, as-many g, some g .1, v .0 .number, t)), (omega (arith, as-many g, some g .1), v .2)))
 
-sub-left : tie.Need-sub-left Inv-loop μ-loop
-sub-left c = search needs
+add-read : tie.Need-add-read Inv-loop μ-loop
+unfolding buffer-length most-read
+add-read c =
+    let g = c .before .before .before .before .before .before in
+    omega (arith, some g .1, g .before .before .before .before .before .loop-test .taken)
+
+add-written : tie.Need-add-written Inv-loop μ-loop
+unfolding buffer-length most-read line-room
+add-written c =
+    let t = c .before .before .before in
+    let g = t .before .before .before .before in
+    let v = here g .loop .inv in
+    omega (arith, t .take-in .ensures .few, as-many g, some g .1, v .0 .few, g .before .before .before .before .before .loop-test .taken)
+
+unwritten-requires : tie.Need-unwritten-requires Inv-loop μ-loop
+unwritten-requires c κs = search needs
+
+returns-2 : tie.Need-returns-2 Inv-loop μ-loop
+returns-2 c =
+    let w = c .before in
+    let t = w .before .before .before .before .before in
+    let g = t .before .before .before .before in
+    let whole = not-true (t .take-in .result .whole) (w .if1 .taken) in
+    rw (c .unwritten .ensures) (chunk-part (here g .loop .inv .0) (as-many g) (t .take-in .ensures) whole)
 
 loop-less : tie.Need-loop-less Inv-loop μ-loop
-loop-less c = search needs
+unfolding most-read
+loop-less c =
+    let g = c .before .before .before .before .before .before .before .before .before in
+    omega (arith, some g .0, g .before .before .before .before .before .loop-test .taken)
 
 loop-again : tie.Need-loop-again Inv-loop μ-loop
 loop-again c =
-    let t = c .before .before .take-in in
-    let n = c .before .before .before .before .before in
-    let r = n .before .before .before .before in
-    let v = r .before .before .before .loop .inv in
-    let e = t .ensures in (
-      e .good,
-      e .held,
-      omega (arith, e .number, v .2, read-bytes n, n .count .ensures .0 .1, r .before .before .loop-test .taken),
-      omega (arith, e .fits, v .5),
-      r .read .kept .1 .0 ∙ v .4,
-      t .kept .1 .1 .0 ∙ v .5,
-    )
+    let t = c .before .before .before .before .before in
+    let g = t .before .before .before .before in
+    let whole = not-false (t .take-in .result .whole) (c .if1 .left) in
+    (chunk-more (here g .loop .inv .0) (as-many g) (t .take-in .ensures) whole, full g, t .take-in .kept .1 .1 .0 ∙ here g .loop .inv .2)
 
-slice-aggregate-make-room : tie.Need-slice-aggregate-make-room Inv-loop μ-loop
-slice-aggregate-make-room c = search needs
+too-long-requires : tie.Need-too-long-requires Inv-loop μ-loop
+too-long-requires c κs = search needs
 
-make-room-requires : tie.Need-make-room-requires Inv-loop μ-loop
-make-room-requires c κs =
-    let v = c .before .before .loop .inv in
-    (omega (arith, v .3, v .5), omega (arith, v .5))
-
-slice-aggregate-finish : tie.Need-slice-aggregate-finish Inv-loop μ-loop
-slice-aggregate-finish c = search needs
-
-finish-requires : tie.Need-finish-requires Inv-loop μ-loop
-unfolding end-room
-finish-requires c κs =
-    let v = c .before .before .before .before .loop .inv in
-    (v .0, (v .1, omega (arith, c .before .make-room .ensures)))
-
-array-share-prefix-out : tie.Need-array-share-prefix-out Inv-loop μ-loop
-array-share-prefix-out c =
-    let f = c .before .finish in
-    omega (arith, f .ensures .fits, f .kept .1 .0)
-
-slice-aggregate-write-all : tie.Need-slice-aggregate-write-all Inv-loop μ-loop
-slice-aggregate-write-all c =
-    let f = c .before .before .finish in
-    sym (length-take-le (f .result) (f .last .1 .0) (omega (arith, f .ensures .fits, f .kept .1 .0)))
-
-write-all-requires : tie.Need-write-all-requires Inv-loop μ-loop
-write-all-requires c κs = search needs
-
-returns : tie.Need-returns Inv-loop μ-loop
-returns c = search needs
+returns-3 : tie.Need-returns-3 Inv-loop μ-loop
+unfolding most-read
+returns-3 c = rw (c .too-long .ensures) (too-long (c .before .before .loop .inv .0) (c .before .loop-test .left))
 
 pub run-spec : {M : Type 1} → statement M
 run-spec =
@@ -135,22 +156,21 @@ run-spec =
     large-buffer-requires
     large-buffer-requires-2
     loop-holds
-    slice-aggregate-read
-    read-requires
-    slice-aggregate-count
-    count-requires
+    slice-aggregate-read-some
+    read-some-requires
+    enum-known-got
+    slice-aggregate-stop
+    stop-requires
+    returns
     array-share-prefix-chunk
     slice-aggregate-take-in
     slice-aggregate-take-in-2
     take-in-requires
-    sub-left
+    add-read
+    add-written
+    unwritten-requires
+    returns-2
     loop-less
     loop-again
-    slice-aggregate-make-room
-    make-room-requires
-    slice-aggregate-finish
-    finish-requires
-    array-share-prefix-out
-    slice-aggregate-write-all
-    write-all-requires
-    returns)
+    too-long-requires
+    returns-3)

@@ -1,95 +1,104 @@
--- `take_in`: the machine is that of the bytes used so far, whatever was written of the buffer.
-use mathlib.Core.Path.{_≡_, refl, sym, ap, _∙_}
-use Prim.Native.Nat.{_+_, _-_, _≤_}
+-- `take_in`: part by part, each written before the next.
+use mathlib.Core.Path.{_≡_, refl, sym, _∙_}
+use Prim.Native.Nat.{_+_, _-_, _≤_, _<_}
 use native.Mathlib.Omega.{arith}
 use borrow.Author.Needs.{needs}
 use lib.ListN.{length}
-use Rattle.lines.specs.Machine.{Machine, after-bytes}
-use Rattle.calls.specs.Days.{GoodDay, line-room}
-use Rattle.calls.specs.Machines.{machine-of, used-bytes}
-use Rattle.calls.proofs.Feeding.Along.{after-append}
-use Rattle.calls.proofs.Feeding.Parts.{part-none, part-join, part-whole}
+use lib.Seq.{length-take-le}
+use Rattle.calls.specs.Days.{line-room}
+use Rattle.calls.specs.Runs.{buffer-length}
 use Rattle.calls.proofs.Feeding.Taken.{kept-length}
+use Rattle.calls.proofs.Running.Chunks.{Along, along-none, along-whole, along-more, along-part}
 use Rattle.calls.proofs.run.take_in.Statement.{statement}
 use Rattle.calls.proofs.run.take_in.Tie as tie
 
 abbrev Inv-loop : tie.InvT-loop
-Inv-loop chunk out₀ from desk₀ used₀ at₀ out desk used at =
-    GoodDay (desk .day)
-    × (desk .held .len ≤ 41)
-    × (used ≤ length chunk)
-    × (desk .number ≤ desk₀ .number + used)
-    × (machine-of desk ≡ after-bytes (machine-of desk₀) (used-bytes chunk 0 used))
-    × (at ≤ length out₀)
-    × (length out ≡ length out₀)
+Inv-loop chunk out₀ desk₀ used₀ written₀ out desk used written = Along desk₀ chunk desk used written × (length out ≡ length out₀)
 
 abbrev μ-loop : tie.MeasureT-loop
-μ-loop chunk out₀ from desk₀ used₀ at₀ out desk used at = length chunk - used
+μ-loop chunk out₀ desk₀ used₀ written₀ out desk used written = length chunk - used
 
 loop-holds : tie.Need-loop-holds Inv-loop μ-loop
-unfolding after-bytes
 loop-holds c =
     let s = c .before .before in
-    (s .pre .0, s .pre .1 .0 .0, omega arith, omega arith, rw (part-none (s .args .chunk .now) 0), s .pre .1 .1 .0, refl)
-
-make-room-requires : tie.Need-make-room-requires Inv-loop μ-loop
-unfolding line-room
-make-room-requires c κs = search needs
+    (along-none (s .args .d) (s .args .chunk .now) (s .pre .0) (s .pre .1 .0 .0), refl)
 
 feed-requires : tie.Need-feed-requires Inv-loop μ-loop
 feed-requires c κs =
-    let l = c .before .before .before .before in
+    let l = c .before .before in
+    let s = l .before .before .before in
+    let a = l .loop .inv .0 in
+    (a .good, ((a .held, a .inside, omega arith), omega (arith, a .number, s .pre .1 .0 .1)))
+
+-- a part taken in
+module _ (c : tie.After-feed Inv-loop μ-loop) where
+  -- the buffer is as long as before
+  same : length (c .feed .last .1 .1 .1 .0) ≡ length (c .before .before .before .loop .out)
+  same = kept-length (c .feed .ensures .0)
+
+  fits : c .feed .result .at ≤ length (c .feed .last .1 .1 .1 .0)
+  fits = omega (arith, c .feed .ensures .0 .fits, same)
+
+slice-reshare-prefix-write-all : tie.Need-slice-reshare-prefix-write-all Inv-loop μ-loop
+slice-reshare-prefix-write-all c = fits (c .before .before .before)
+
+slice-aggregate-write-all : tie.Need-slice-aggregate-write-all Inv-loop μ-loop
+slice-aggregate-write-all c =
+    let f = c .before .before .before .before in
+    sym (length-take-le (f .feed .result .at) (f .feed .last .1 .1 .1 .0) (fits f))
+
+write-all-requires : tie.Need-write-all-requires Inv-loop μ-loop
+write-all-requires c κs = search needs
+
+add-written : tie.Need-add-written Inv-loop μ-loop
+unfolding line-room buffer-length
+add-written c =
+    let f = c .before .before .before .before .before in
+    let l = f .before .before .before in
     let s = l .before .before .before in
     let v = l .loop .inv in
-    let room : c .before .make-room .result ≤ length (l .loop .out) = omega (arith, c .before .make-room .ensures) in
-    (v .0, ((v .1, v .2, room), omega (arith, v .3, s .pre .1 .0 .1)))
+    omega (arith, c .write-all .ensures, slice-aggregate-write-all (c .before), f .feed .ensures .0 .fits, v .1, v .0 .few, v .0 .inside, s .pre .1 .1 .0, s .pre .1 .1 .1)
 
-loop-less : tie.Need-loop-less Inv-loop μ-loop
-unfolding line-room
-loop-less c =
-    let f = c .before .before .before .feed in
-    let m = c .before .before .before .before .before in
-    let t = m .before .before .loop-test .taken in
-    omega (arith, t, f .ensures .1 .further (m .make-room .ensures) t)
+-- after the write
+module _ (c : tie.After-write-all Inv-loop μ-loop) where
+  abbrev fed : tie.After-feed Inv-loop μ-loop
+  fed = c .before .before .before .before .before
 
-loop-again : tie.Need-loop-again Inv-loop μ-loop
-loop-again c =
-    let f = c .before .before .before .feed .ensures .0 in
-    let g = c .before .before .before .feed .result in
-    let l = c .before .before .before .before .before .before .before .before in
-    let s = l .before .before .before in
-    let v = l .loop .inv in
-    let chunk = s .args .chunk .now in
-    let m = machine-of (s .args .d) in (
-      f .good,
-      f .held,
-      f .inside,
-      omega (arith, f .number, v .3),
-      f .machine
-          ∙ ap (λ (n : Machine). after-bytes n (used-bytes chunk (l .loop .used) (g .used))) (v .4)
-          ∙ sym (after-append m (used-bytes chunk 0 (l .loop .used)) (used-bytes chunk (l .loop .used) (g .used)))
-          ∙ ap (after-bytes m) (part-join chunk 0 (l .loop .used) (g .used) (omega arith) (f .forward) (f .inside)),
-      omega (arith, f .fits, v .6),
-      kept-length f ∙ v .6,
-    )
+  abbrev before-it : tie.At-loop Inv-loop μ-loop
+  before-it = fed .before .before .before
+
+  as-long : length (fed .feed .last .1 .1 .1 .0) ≡ length (before-it .before .before .before .args .out .now)
+  as-long = same fed ∙ before-it .loop .inv .1
 
 same-length : tie.Need-same-length Inv-loop μ-loop
-same-length c = search needs
+same-length c = as-long (c .before)
 
 returns : tie.Need-returns Inv-loop μ-loop
 returns c =
-    let l = c .before in
+    let w = c .before in
+    along-part (before-it w .loop .inv .0) (fed w .feed .ensures .0) (w .write-all .result) (c .if1 .taken)
+
+loop-less : tie.Need-loop-less Inv-loop μ-loop
+unfolding line-room buffer-length
+loop-less c =
+    let w = c .before in
+    let l = before-it w in
     let s = l .before .before .before in
-    let v = l .loop .inv in
-    let chunk = s .args .chunk .now in
-    let e : l .loop .used ≡ length chunk = omega (arith, v .2, c .loop-test .left) in
-    record {
-      good = v .0;
-      held = v .1;
-      number = omega (arith, v .3, v .2);
-      machine = v .4 ∙ ap (after-bytes (machine-of (s .args .d))) (ap (used-bytes chunk 0) e ∙ part-whole chunk);
-      fits = v .5;
-    }
+    let t = fed w .before .before .loop-test .taken in
+    omega (arith, t, fed w .feed .ensures .1 .further (omega (arith, l .loop .inv .1, s .pre .1 .1 .1)) t)
+
+loop-again : tie.Need-loop-again Inv-loop μ-loop
+loop-again c =
+    let w = c .before in
+    let put = w .write-all .result in
+    let all : put ≡ fed w .feed .result .at = omega (arith, c .if1 .left, w .write-all .ensures, slice-aggregate-write-all (w .before)) in
+    (rw all (along-more (before-it w .loop .inv .0) (fed w .feed .ensures .0)), as-long w)
+
+same-length-2 : tie.Need-same-length-2 Inv-loop μ-loop
+same-length-2 c = search needs
+
+returns-2 : tie.Need-returns-2 Inv-loop μ-loop
+returns-2 c = along-whole (c .before .loop .inv .0) (c .loop-test .left)
 
 pub take-in-spec : {M : Type 1} → statement M
 take-in-spec =
@@ -98,9 +107,14 @@ take-in-spec =
     Inv-loop
     μ-loop
     loop-holds
-    make-room-requires
     feed-requires
+    slice-reshare-prefix-write-all
+    slice-aggregate-write-all
+    write-all-requires
+    add-written
+    same-length
+    returns
     loop-less
     loop-again
-    same-length
-    returns)
+    same-length-2
+    returns-2)
