@@ -17,11 +17,11 @@ use Rattle.board.specs.Limits.{places-held}
 use Rattle.board.specs.Rows.{close-rows}
 use Rattle.board.specs.Close.{close-number, given-up, closed-if, closed}
 use Rattle.board.specs.Lent.{Lent, LentAfter, entries}
-use Rattle.entries.specs.declared.Entry.{Entry}
-use Rattle.entries.specs.declared.Parts.{Parts}
-use Rattle.entries.specs.Listed.{EntriesAfter}
-use Rattle.entries.specs.Parts.{written, Gathered}
-use Rattle.entries.proofs.Written.{written-none, Begins, written-all}
+use Rattle.boundary.specs.declared.entries.Entry.{Entry}
+use Rattle.boundary.specs.declared.entries.Parts.{Parts}
+use Rattle.boundary.specs.Listed.{EntriesAfter}
+use Rattle.boundary.specs.Parts.{written, Gathered}
+use Rattle.boundary.proofs.Written.{written-none, Begins, written-all}
 
 -- row 8 asks only whether a list has as many entries as the board has places
 long-enough : (lent : ℕ) → leb 256 (min lent 256) ≡ leb 256 lent

@@ -5,7 +5,7 @@ use Prim.Native.Nat.{ℕ, zero, suc}
 use lib.ListN.{length, drop}
 use Rattle.rule.specs.Job.{Job}
 use Rattle.board.specs.Held.{slot-number}
-use Rattle.entries.specs.declared.Entry.{Entry}
+use Rattle.boundary.specs.declared.entries.Entry.{Entry}
 
 -- 'one entry a rack: ticket, grade, admitted slot'
 unfoldable pub entry-of : Job → Entry

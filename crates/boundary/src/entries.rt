@@ -4,8 +4,8 @@ ghost use Prim.Native.Nat.{_<_};
 ghost use lib.ListN.{length};
 ghost use Rattle.board.specs.Limits.{places-held};
 ghost use Rattle.board.specs.Close.{given-up, closed};
-ghost use Rattle.entries.specs.Listed.{EntriesAfter};
-ghost use Rattle.entries.specs.Parts.{entry-at, Gathered};
+ghost use Rattle.boundary.specs.Listed.{EntriesAfter};
+ghost use Rattle.boundary.specs.Parts.{entry-at, Gathered};
 use board::Board;
 use board::Closed;
 use board::Slot;
@@ -26,14 +26,14 @@ struct Parts {
 }
 
 // What a closing answers, how many jobs it gives up, and their entries.
-struct Gone {
+struct ClosedParts {
     answer: Closed,
     count: usize,
     parts: Parts,
 }
 
 // Closes a slot for a list of so many entries.
-fn closing(b: Board, lent: usize) -> Gone
+fn closing(b: Board, lent: usize) -> ClosedParts
     ensures { λ r. ⌜ Gathered b lent r ⌝ }
 {
     let mut tickets = [0u32; Board::PLACES];
@@ -47,7 +47,7 @@ fn closing(b: Board, lent: usize) -> Gone
         grades,
         slots,
     };
-    Gone {
+    ClosedParts {
         answer,
         count,
         parts,
@@ -68,17 +68,17 @@ fn entry_at(p: Parts, i: usize) -> Entry
 
 // Closes a slot and writes the jobs given up from the start of a list of entries that the caller lends.
 #[no_mangle]
-pub extern "C" fn close_into(b: Board, list: &mut [Entry]) -> Closed
+pub extern "C" fn oven_close_into(b: Board, list: &mut [Entry]) -> Closed
     ensures answer { λ r. ⌜ r ≡ closed b (length (now (list .entry))) ⌝ }
     ensures lent { λ r. ⌜ EntriesAfter (r .refusal) (given-up b) (now (list .entry)) (now (list .exit)) ⌝ }
 {
-    let gone = closing(b, list.len());
-    let count = gone.count;
-    let parts = gone.parts;
+    let closed = closing(b, list.len());
+    let count = closed.count;
+    let parts = closed.parts;
     let mut i: usize = 0;
     while i < count {
         list[i] = entry_at(parts, i);
         i += 1;
     }
-    gone.answer
+    closed.answer
 }

@@ -8,10 +8,10 @@ use lib.ListN.{length, getD, take, drop, set, length-set, length-map, List·getD
 use lib.Seq.{take-suc, take-length, drop-cons, set-at, append-snoc, length-take-le}
 use Rattle.rule.specs.Job.{Job}
 use Rattle.board.specs.Held.{slot-number}
-use Rattle.entries.specs.declared.Entry.{Entry}
-use Rattle.entries.specs.declared.Parts.{Parts}
-use Rattle.entries.specs.Listed.{entry-of}
-use Rattle.entries.specs.Parts.{entry-at, written}
+use Rattle.boundary.specs.declared.entries.Entry.{Entry}
+use Rattle.boundary.specs.declared.entries.Parts.{Parts}
+use Rattle.boundary.specs.Listed.{entry-of}
+use Rattle.boundary.specs.Parts.{entry-at, written}
 
 pub written-length : (ys : List Entry) (p : Parts) (n : ℕ) → length (written ys p n) ≡ length ys
 unfolding written

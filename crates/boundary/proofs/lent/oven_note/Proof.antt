@@ -1,4 +1,4 @@
--- `tally::lent::note` meets its contract: a walk of its MIR, by hand. The borrow is opened, its value is copied and passed to `count_event`, the
+-- `boundary::lent::oven_note` meets its contract: a walk of its MIR, by hand. The borrow is opened, its value is copied and passed to `oven_count`, the
 -- tally of the answer is stored, and the borrow is closed there.
 -- Assumes nothing.
 use mathlib.Core.Path.{_≡_, refl, ap}
@@ -46,14 +46,14 @@ use Rattle.board.proofs.Tally as T
 use Rattle.board.proofs.Tally.Laws as T′
 use Rattle.board.proofs.Counted as D
 use Rattle.board.proofs.Counted.Laws as D′
-use Rattle.tally.proofs.count_event as ce
-use Rattle.tally.proofs.count_event.Symbol as ce-def
-use Rattle.tally.proofs.count_event.Symbol.{name as #tally·count-event}
-use Rattle.tally.proofs.count_event.Met as ce-thm
-use Rattle.tally.proofs.lent.note.Key.{name as #tally·lent·note}
-use Rattle.tally.proofs.lent.note as note
-use Rattle.tally.proofs.lent.note.Statement as stated
-use Rattle.tally.proofs.lent.note.Code as code
+use Rattle.boundary.proofs.oven_count as ce
+use Rattle.boundary.proofs.oven_count.Symbol as ce-def
+use Rattle.boundary.proofs.oven_count.Symbol.{name as #oven-count}
+use Rattle.boundary.proofs.oven_count.Met as ce-thm
+use Rattle.boundary.proofs.lent.oven_note.Key.{name as #oven-note}
+use Rattle.boundary.proofs.lent.oven_note as note
+use Rattle.boundary.proofs.lent.oven_note.Statement as stated
+use Rattle.boundary.proofs.lent.oven_note.Code as code
 
 abbrev Arg : Type 0
 Arg = RefT Tally × (ℕ × (ℕ × Unit {0}))
@@ -96,7 +96,7 @@ module _ {M : Type 1} (𝓤 : URA M) (H : Heap 𝓤) (A : Atoms 𝓤) (W : Given
   exits r is fk fg e =
       qed W (‵ (fobs γ (T.the-row .coded .code (r .tally))) ∷ ‵ (fbor κ (Body (mem (T.the-row)) b o γ)) ∷ ‵ (flft κ q) ∷ []) ∵
       suffices ! _ (ends-at 𝓤 H A note.ended stayed (note.clauses 𝓤 H A at-mem run) W (((κ, tt), (q, tt), tt, x, at), tt) (vint w8 (r .refusal)) (r .refusal) (r .tally, (tt, (tt, tt))) (tt, (tt, (tt, tt)))) $
-      says ! (ap (λ (y : Counted). y .refusal) e, ap (λ (y : Counted). y .tally) e) $ nothing ! $ move ! (3 ∷ 0 ∷ []) $ join ! $
+      says ! e $ nothing ! $ move ! (3 ∷ 0 ∷ []) $ join ! $
       frame ! $ feqI ! (List Val) (vptr b o ∷ []) (vptr b o ∷ []) refl $ fjoin3 ! $
       nothing ! $ owned ! u32 (Is u32) (uint-makes 𝓤 H A W w32) g _ (refl, fg) $ fjoin ! $ owned ! u32 (Is u32) (uint-makes 𝓤 H A W w32) k _ (refl, fk) $ fjoin ! $
       move ! (1 ∷ 0 ∷ []) $ fjoin ! $ owned ! u8 (Is u8) (uint-makes 𝓤 H A W w8) (r .refusal) _ is $ move ! (1 ∷ 0 ∷ []) $ done !
@@ -107,7 +107,7 @@ module _ {M : Type 1} (𝓤 : URA M) (H : Heap 𝓤) (A : Atoms 𝓤) (W : Given
   goes-ce : ent 𝓤 (sep 𝓤 (sem 𝓤 H A ftrue) (sem 𝓤 H A (owns (T.the-row ∷ u32 ∷ u32 ∷ []) (h, (k, (g, tt))) vx))) (Ce 𝓤 H A at-mem run .pre to-ce)
   goes-ce = qed W (‵ ftrue ∷ ‵ (owns (T.the-row ∷ u32 ∷ u32 ∷ []) (h, (k, (g, tt))) vx) ∷ []) ∵ join ! $ frame ! $ done !
 
-  module _ (C : Calls 𝓤 H) (Λ : Loops 𝓤 H) (fm : FmC 𝓤 H (W .laws) C) (known-ce : Triple 𝓤 (C #tally·count-event) (Ce 𝓤 H A at-mem run)) where
+  module _ (C : Calls 𝓤 H) (Λ : Loops 𝓤 H) (fm : FmC 𝓤 H (W .laws) C) (known-ce : Triple 𝓤 (C #oven-count) (Ce 𝓤 H A at-mem run)) where
     walk : ent 𝓤 (onEntry 𝓤 H A note.signature (κ, tt) (q, tt) x at) (WpFn 𝓤 H C Λ code.function (vptr b o ∷ vint w32 k ∷ vint w32 g ∷ []) Post)
     walk =
         qed W ((‵ (flft κ q) ⊛ ‵ ftrue) ∷ ‵ (owns (MutRef (named 0) κ (T.the-row) ∷ u32 ∷ u32 ∷ []) x at) ∷ []) ∵ split ! $ move ! (2 ∷ []) $ fsplit ! $ move ! (1 ∷ []) $ fsplit ! $
@@ -139,7 +139,7 @@ module _ {M : Type 1} (𝓤 : URA M) (H : Heap 𝓤) (A : Atoms 𝓤) (W : Given
         keep ! (0 ∷ 1 ∷ 2 ∷ []) $ by ! (exits r (number-is r ir) (gk .1) (gg .1) e)))))))))))))))
 
 module _ {M : Type 1} (𝓤 : URA M) (H : Heap 𝓤) (A : Atoms 𝓤) (W : Given 𝓤 H A) (at-mem : Memory → SProp 𝓤) (run : Routine → Fun 𝓤) where
-  note-walks : (C : Calls 𝓤 H) (Λ : Loops 𝓤 H) → FmC 𝓤 H (W .laws) C → Triple 𝓤 (C #tally·count-event) (Ce 𝓤 H A at-mem run)
+  note-walks : (C : Calls 𝓤 H) (Λ : Loops 𝓤 H) → FmC 𝓤 H (W .laws) C → Triple 𝓤 (C #oven-count) (Ce 𝓤 H A at-mem run)
       → Walks 𝓤 H A note.ended stayed (WpFn 𝓤 H C Λ code.function) (note.clauses 𝓤 H A at-mem run)
   note-walks C Λ fm known-ce = walked 𝓤 H A note.ended stayed (note.clauses 𝓤 H A at-mem run) (WpFn 𝓤 H C Λ code.function) (λ κs. (ptr-vals, (uint-vals w32, (uint-vals w32, tt)))) (λ κs. (mut-tells (named 0) (κs .0) (T.the-row), (uint-tells w32, (uint-tells w32, tt))))
       (λ κs qs bounds a _ _. via 𝓤 _ (fst∗ 𝓤 _ (emp 𝓤)) (walk 𝓤 H A W at-mem run (κs .0) (qs .0) (a .0 .ptr .0) (a .0 .ptr .1) (a .0 .name) (a .0 .now) (a .1 .0) (a .1 .1 .0) C Λ fm known-ce))
@@ -148,14 +148,14 @@ module _ {M : Type 1} (𝓤 : URA M) (H : Heap 𝓤) (A : Atoms 𝓤) (W : Given
   goes = (goes-ref 𝓤 H A W 1 0 tt (plain (λ _. T.the-row)), (goes-none 𝓤 H A W 1 (λ _. u32) yes (λ κs x f. refl), (goes-none 𝓤 H A W 1 (λ _. u32) yes (λ κs x f. refl), tt)))
 
 note-meets : {M : Type 1} (𝓤 : URA M) (H : Heap 𝓤) (A : Atoms 𝓤) (W : Given 𝓤 H A) (at-mem : Memory → SProp 𝓤) (run : Routine → Fun 𝓤) (𝓣 : Tables 𝓤 H)
-    → Triple 𝓤 (𝓣 .C #tally·count-event) (Ce 𝓤 H A at-mem run) → Meets 𝓤 H A note.signature (WpFn 𝓤 H (𝓣 .C) (𝓣 .Λ) code.function) (note.spec 𝓤 H A at-mem run)
+    → Triple 𝓤 (𝓣 .C #oven-count) (Ce 𝓤 H A at-mem run) → Meets 𝓤 H A note.signature (WpFn 𝓤 H (𝓣 .C) (𝓣 .Λ) code.function) (note.spec 𝓤 H A at-mem run)
 note-meets 𝓤 H A W at-mem run 𝓣 known-ce = walk-meets 𝓤 H A note.ended stayed W (goes 𝓤 H A W at-mem run) (note.clauses 𝓤 H A at-mem run) (WpFn 𝓤 H (𝓣 .C) (𝓣 .Λ) code.function) (WpFn-mono 𝓤 H (W .laws) 𝓣 code.function)
     (note-walks 𝓤 H A W at-mem run (𝓣 .C) (𝓣 .Λ) (fmOf 𝓤 H (W .laws) 𝓣) known-ce)
 
-pub note-spec : {M : Type 1} → stated.statement M
+pub oven-note-spec : {M : Type 1} → stated.statement M
 unfolding code.routine tablesOf
-note-spec 𝓤 H 𝓜 𝓖 𝓡 =
+oven-note-spec 𝓤 H 𝓜 𝓖 𝓡 =
     entered 𝓤 H (tripleOf 𝓤 H (𝓖 .A) note.signature (note.spec 𝓤 H (𝓖 .A) (𝓜 .mem) (𝓡 .run)))
-    (tables 𝓤 H 𝓜 𝓡 code.env .C) (tables 𝓤 H 𝓜 𝓡 code.env .Λ) #tally·lent·note code.function (code.unfolded 𝓤 H 𝓜 𝓡)
+    (tables 𝓤 H 𝓜 𝓡 code.env .C) (tables 𝓤 H 𝓜 𝓡 code.env .Λ) #oven-note code.function (code.unfolded 𝓤 H 𝓜 𝓡)
     (note-meets 𝓤 H (𝓖 .A) (givenOf 𝓤 H 𝓜 𝓖) (𝓜 .mem) (𝓡 .run) (tablesOf 𝓤 H 𝓜 (tables 𝓤 H 𝓜 𝓡 code.env))
-    (cited 𝓤 H (Ce 𝓤 H (𝓖 .A) (𝓜 .mem) (𝓡 .run)) 𝓜 𝓡 code.env #tally·count-event ce-def.routine code.calls-tally·count-event (ce-thm.met 𝓤 H 𝓜 𝓖 𝓡)))
+    (cited 𝓤 H (Ce 𝓤 H (𝓖 .A) (𝓜 .mem) (𝓡 .run)) 𝓜 𝓡 code.env #oven-count ce-def.routine code.calls-boundary·oven-count (ce-thm.met 𝓤 H 𝓜 𝓖 𝓡)))

@@ -1,4 +1,4 @@
--- `entries::close_into` meets its contract: a walk of its MIR, by hand. The list's borrow is opened once, after the closing, and closed once, after the loop; a turn gets one entry by a call and stores it.
+-- `boundary::entries::oven_close_into` meets its contract: a walk of its MIR, by hand. The list's borrow is opened once, after the closing, and closed once, after the loop; a turn gets one entry by a call and stores it.
 -- Assumes nothing.
 use mathlib.Core.Path.{_≡_, refl, sym, ap, subst, _∙_}
 use Prim.Native.Nat.{ℕ, zero, suc, _+_, _-_, _*_, _≤_, _<_, _^_, zero-le}
@@ -53,31 +53,31 @@ use Rattle.board.proofs.Board as B
 use Rattle.board.proofs.Board.Laws as B′
 use Rattle.board.proofs.Closed as D
 use Rattle.board.proofs.Closed.Laws as D′
-use Rattle.entries.specs.declared.Entry.{Entry}
-use Rattle.entries.specs.declared.Gone.{Gone}
-use Rattle.entries.specs.declared.Parts.{Parts}
-use Rattle.entries.specs.Listed.{EntriesAfter}
-use Rattle.entries.specs.Parts.{entry-at, written, Gathered}
-use Rattle.entries.proofs.Written.{written-length, written-more, written-none, no-entry}
-use Rattle.entries.proofs.Entry as T
-use Rattle.entries.proofs.Entry.Laws as T′
-use Rattle.entries.proofs.Gone as G
-use Rattle.entries.proofs.Gone.Laws as G′
-use Rattle.entries.proofs.Parts as P
-use Rattle.entries.proofs.Parts.Laws as P′
-use Rattle.entries.proofs.closing as cl
-use Rattle.entries.proofs.closing.Symbol as cl-def
-use Rattle.entries.proofs.closing.Symbol.{name as #entries·closing}
-use Rattle.entries.proofs.closing.Met as cl-thm
-use Rattle.entries.proofs.entry_at as ea
-use Rattle.entries.proofs.entry_at.Symbol as ea-def
-use Rattle.entries.proofs.entry_at.Symbol.{name as #entries·entry-at}
-use Rattle.entries.proofs.entry_at.Met as ea-thm
-use Rattle.entries.proofs.close_into.Key.{name as #entries·close-into}
-use Rattle.entries.proofs.close_into as ci
-use Rattle.entries.proofs.close_into.Statement as stated
-use Rattle.entries.proofs.close_into.Code as code
-use Rattle.entries.proofs.close_into.Code.Mir as mirs
+use Rattle.boundary.specs.declared.entries.Entry.{Entry}
+use Rattle.boundary.specs.declared.entries.ClosedParts.{ClosedParts}
+use Rattle.boundary.specs.declared.entries.Parts.{Parts}
+use Rattle.boundary.specs.Listed.{EntriesAfter}
+use Rattle.boundary.specs.Parts.{entry-at, written, Gathered}
+use Rattle.boundary.proofs.Written.{written-length, written-more, written-none, no-entry}
+use Rattle.boundary.proofs.entries.Entry as T
+use Rattle.boundary.proofs.entries.Entry.Laws as T′
+use Rattle.boundary.proofs.entries.ClosedParts as G
+use Rattle.boundary.proofs.entries.ClosedParts.Laws as G′
+use Rattle.boundary.proofs.entries.Parts as P
+use Rattle.boundary.proofs.entries.Parts.Laws as P′
+use Rattle.boundary.proofs.entries.closing as cl
+use Rattle.boundary.proofs.entries.closing.Symbol as cl-def
+use Rattle.boundary.proofs.entries.closing.Symbol.{name as #closing}
+use Rattle.boundary.proofs.entries.closing.Met as cl-thm
+use Rattle.boundary.proofs.entries.entry_at as ea
+use Rattle.boundary.proofs.entries.entry_at.Symbol as ea-def
+use Rattle.boundary.proofs.entries.entry_at.Symbol.{name as #entry-at}
+use Rattle.boundary.proofs.entries.entry_at.Met as ea-thm
+use Rattle.boundary.proofs.entries.oven_close_into.Key.{name as #oven-close-into}
+use Rattle.boundary.proofs.entries.oven_close_into as ci
+use Rattle.boundary.proofs.entries.oven_close_into.Statement as stated
+use Rattle.boundary.proofs.entries.oven_close_into.Code as code
+use Rattle.boundary.proofs.entries.oven_close_into.Code.Mir as mirs
 
 -- the type of the local at a place
 abbrev typeAt : ℕ → List Local → Ty
@@ -108,29 +108,29 @@ abbrev stayed : Stays (ci.ended .signature .params) (ci.ended .kept)
 stayed = (stay-none (λ _. B.the-row) yes, (stay-slice (0 ∷ []) tt (plain (λ _. T.the-row)), tt))
 
 -- the value of what a closing hands over, and of its fields
-abbrev gv : Gone → Val
+abbrev gv : ClosedParts → Val
 gv r = LL.val G.the-type G′.the-laws r
 
-abbrev av : Gone → Val
+abbrev av : ClosedParts → Val
 av r = LL.val D.the-type D′.the-laws (r .answer)
 
-abbrev pv : Gone → Val
+abbrev pv : ClosedParts → Val
 pv r = LL.val P.the-type P′.the-laws (r .parts)
 
-answer-is : (r : Gone) {v : Val} → Is G.the-row r (v ∷ []) → Is D.the-row (r .answer) (av r ∷ [])
+answer-is : (r : ClosedParts) {v : Val} → Is G.the-row r (v ∷ []) → Is D.the-row (r .answer) (av r ∷ [])
 answer-is r {v} is = LL.owed G.the-type G′.the-laws r (v ∷ []) is .0
 
-count-is : (r : Gone) {v : Val} → Is G.the-row r (v ∷ []) → Is usize (r .count) (vint w64 (r .count) ∷ [])
+count-is : (r : ClosedParts) {v : Val} → Is G.the-row r (v ∷ []) → Is usize (r .count) (vint w64 (r .count) ∷ [])
 count-is r {v} is = LL.owed G.the-type G′.the-laws r (v ∷ []) is .1 .0
 
-parts-is : (r : Gone) {v : Val} → Is G.the-row r (v ∷ []) → Is P.the-row (r .parts) (pv r ∷ [])
+parts-is : (r : ClosedParts) {v : Val} → Is G.the-row r (v ∷ []) → Is P.the-row (r .parts) (pv r ∷ [])
 parts-is r {v} is = LL.owed G.the-type G′.the-laws r (v ∷ []) is .1 .1 .0
 
 module _ {M : Type 1} (𝓤 : URA M) (H : Heap 𝓤) (A : Atoms 𝓤) (at-mem : Memory → SProp 𝓤) (run : Routine → Fun 𝓤) where
   abbrev Cl : Contract 𝓤
   Cl = tripleOf 𝓤 H A cl.signature (cl.spec 𝓤 H A at-mem run)
 
-  cl-of : (bd : Board) (m : ℕ) (r : Gone) → ent 𝓤 (ensured 𝓤 H A cl.ended (cl.clauses 𝓤 H A at-mem run) tt (bd, (m, tt)) tt r) (fact 𝓤 (Gathered bd m r))
+  cl-of : (bd : Board) (m : ℕ) (r : ClosedParts) → ent 𝓤 (ensured 𝓤 H A cl.ended (cl.clauses 𝓤 H A at-mem run) tt (bd, (m, tt)) tt r) (fact 𝓤 (Gathered bd m r))
   cl-of bd m r = exE 𝓤 _ (λ ws. snd∗ 𝓤 (sem 𝓤 H A (lasts cl.ended tt (bd, (m, tt)) ws)) (fact 𝓤 (Gathered bd m r)))
 
   abbrev Ea : Contract 𝓤
@@ -160,7 +160,7 @@ module _ {M : Type 1} (𝓤 : URA M) (H : Heap 𝓤) (A : Atoms 𝓤) (W : Given
     goes-cl = qed W (‵ ftrue ∷ ‵ (owns (B.the-row ∷ usize ∷ []) (bd, (length ys, tt)) (bv ∷ [], (vint w64 (length ys) ∷ [], tt))) ∷ []) ∵ join ! $ frame ! $ done !
 
     -- with what the closing hands over
-    module _ (r : Gone) (e : Gathered bd (length ys) r) (ir : Is G.the-row r (gv r ∷ [])) where
+    module _ (r : ClosedParts) (e : Gathered bd (length ys) r) (ir : Is G.the-row r (gv r ∷ [])) where
       abbrev n : ℕ
       n = r .count
 
@@ -194,7 +194,7 @@ module _ {M : Type 1} (𝓤 : URA M) (H : Heap 𝓤) (A : Atoms 𝓤) (W : Given
       goes-ea : (i : ℕ) → i < places-held → ent 𝓤 (sep 𝓤 (sem 𝓤 H A ftrue) (sem 𝓤 H A (owns (P.the-row ∷ usize ∷ []) (r .parts, (i, tt)) (pv r ∷ [], (vint w64 i ∷ [], tt))))) (Ea 𝓤 H A at-mem run .pre (to-ea i))
       goes-ea i l = qed W (‵ ftrue ∷ ‵ (owns (P.the-row ∷ usize ∷ []) (r .parts, (i, tt)) (pv r ∷ [], (vint w64 i ∷ [], tt))) ∷ []) ∵ says ! l $ frame ! $ done !
 
-      module _ (𝓣 : Tables 𝓤 H) (known : Triple 𝓤 (𝓣 .C #entries·entry-at) (Ea 𝓤 H A at-mem run)) (l₀ l₁ l₂ l₃ l₄ l₅ l₆ l₇ l₈ l₉ l₁₀ l₁₁ : ℕ) where
+      module _ (𝓣 : Tables 𝓤 H) (known : Triple 𝓤 (𝓣 .C #entry-at) (Ea 𝓤 H A at-mem run)) (l₀ l₁ l₂ l₃ l₄ l₅ l₆ l₇ l₈ l₉ l₁₀ l₁₁ : ℕ) where
         abbrev C : Calls 𝓤 H
         C = 𝓣 .C
 
@@ -272,7 +272,7 @@ module _ {M : Type 1} (𝓤 : URA M) (H : Heap 𝓤) (A : Atoms 𝓤) (W : Given
             stored : {y : Entry} → y ≡ entry-at (r .parts) (i .0) → set (ws (i .0)) (i .0) y ≡ ws (i .0 + 1)
             stored ye = ap (λ (y : Entry). set (ws (i .0)) (i .0) y) ye ∙ written-more ys (r .parts) (i .0)
 
-    walk : (𝓣 : Tables 𝓤 H) → Triple 𝓤 (𝓣 .C #entries·closing) (Cl 𝓤 H A at-mem run) → Triple 𝓤 (𝓣 .C #entries·entry-at) (Ea 𝓤 H A at-mem run)
+    walk : (𝓣 : Tables 𝓤 H) → Triple 𝓤 (𝓣 .C #closing) (Cl 𝓤 H A at-mem run) → Triple 𝓤 (𝓣 .C #entry-at) (Ea 𝓤 H A at-mem run)
         → ent 𝓤 (onEntry 𝓤 H A ci.signature (κ, tt) (q, tt) x at) (WpFn 𝓤 H (𝓣 .C) (𝓣 .Λ) code.function (bv ∷ sliceVal (b, o) (length ys) ∷ []) Post)
     walk 𝓣 known-cl known-ea =
         qed W ((‵ (flft κ q) ⊛ ‵ ftrue) ∷ ‵ (owns (B.the-row ∷ MutSlice (named 0) κ T.the-row ∷ []) x at) ∷ []) ∵ enter ! (𝓣 .C) (𝓣 .Λ) code.function (bv ∷ sliceVal (b, o) (length ys) ∷ []) _ $
@@ -283,7 +283,7 @@ module _ {M : Type 1} (𝓤 : URA M) (H : Heap 𝓤) (A : Atoms 𝓤) (W : Given
         nothing ! $ owned ! usize (Is usize) (uint-makes 𝓤 H A W w64) (length ys) _ (refl, gn .0) $ fjoin ! $ owned ! B.the-row (Is B.the-row) ((LL.makes B.the-type B′.the-plain) 𝓤 H A) bd _ ib $ fjoin ! $ nothing ! $
         use2 W (raw (Cl 𝓤 H A at-mem run .pre to-cl)) goes-cl $
         calls-at ! (fmOf 𝓤 H (W .laws) 𝓣) (Cl 𝓤 H A at-mem run) known-cl to-cl (and-then ! (load ! (from ! (stop !)) (look ! 21 refl)) (and-then ! (load ! (from ! (stop !)) (look ! 9 refl)) (no-more !))) (λ v.
-        use1 W (later (some (λ (r : Gone). (‵ ftrue ⊛ ‵ (G.the-row .own r (v ∷ []))) ⊛ raw (ensured 𝓤 H A cl.ended (cl.clauses 𝓤 H A at-mem run) tt (bd, (length ys, tt)) tt r)))) (id⊢ 𝓤 _) $ await ! tt $ pick ! (λ r.
+        use1 W (later (some (λ (r : ClosedParts). (‵ ftrue ⊛ ‵ (G.the-row .own r (v ∷ []))) ⊛ raw (ensured 𝓤 H A cl.ended (cl.clauses 𝓤 H A at-mem run) tt (bd, (length ys, tt)) tt r)))) (id⊢ 𝓤 _) $ await ! tt $ pick ! (λ r.
         split ! $ move ! (1 ∷ []) $ use1 W (raw (fact 𝓤 (Gathered bd (length ys) r))) (cl-of 𝓤 H A at-mem run bd (length ys) r) $ heard ! (Gathered bd (length ys) r) (λ e. split ! $ drop ! $
         peeks ! G.the-row (Is G.the-row) (shows 𝓤 H A G.the-row) r (v ∷ []) (λ iv.
         land ! (from ! (stop !)) (init ! 17 refl (LL.lawful G.the-type G′.the-laws 𝓤 H A W .typed r _ iv .0)) $ drop ! $
@@ -298,11 +298,11 @@ module _ {M : Type 1} (𝓤 : URA M) (H : Heap 𝓤) (A : Atoms 𝓤) (W : Given
         keep ! (0 ∷ 1 ∷ 2 ∷ 3 ∷ 7 ∷ 8 ∷ 9 ∷ 10 ∷ 11 ∷ 12 ∷ 13 ∷ 14 ∷ 15 ∷ 16 ∷ 17 ∷ 18 ∷ 19 ∷ 20 ∷ 21 ∷ 22 ∷ 23 ∷ 24 ∷ 25 ∷ 26 ∷ 27 ∷ 28 ∷ 29 ∷ 30 ∷ []) $
         first ! $ blocks ! $ loops ! 𝓣 (Nearer r e (spelt r iv)) (Nearer-wf r e (spelt r iv)) (At r e (spelt r iv) 𝓣 known-ea l₀ l₁ l₂ l₃ l₄ l₅ l₆ l₇ l₈ l₉ l₁₀ l₁₁) (turns r e (spelt r iv) 𝓣 known-ea l₀ l₁ l₂ l₃ l₄ l₅ l₆ l₇ l₈ l₉ l₁₀ l₁₁) (0, zero-le)))))))))))))))))
       where
-        spelt : (r : Gone) {v : Val} → Is G.the-row r (v ∷ []) → Is G.the-row r (gv r ∷ [])
+        spelt : (r : ClosedParts) {v : Val} → Is G.the-row r (v ∷ []) → Is G.the-row r (gv r ∷ [])
         spelt r {v} is = LL.owes G.the-type G′.the-laws r (LL.owed G.the-type G′.the-laws r (v ∷ []) is)
 
 module _ {M : Type 1} (𝓤 : URA M) (H : Heap 𝓤) (A : Atoms 𝓤) (W : Given 𝓤 H A) (at-mem : Memory → SProp 𝓤) (run : Routine → Fun 𝓤) (𝓣 : Tables 𝓤 H)
-    (known-cl : Triple 𝓤 (𝓣 .C #entries·closing) (Cl 𝓤 H A at-mem run)) (known-ea : Triple 𝓤 (𝓣 .C #entries·entry-at) (Ea 𝓤 H A at-mem run)) where
+    (known-cl : Triple 𝓤 (𝓣 .C #closing) (Cl 𝓤 H A at-mem run)) (known-ea : Triple 𝓤 (𝓣 .C #entry-at) (Ea 𝓤 H A at-mem run)) where
   ci-walks : Walks 𝓤 H A ci.ended stayed (WpFn 𝓤 H (𝓣 .C) (𝓣 .Λ) code.function) (ci.clauses 𝓤 H A at-mem run)
   ci-walks = walked 𝓤 H A ci.ended stayed (ci.clauses 𝓤 H A at-mem run) (WpFn 𝓤 H (𝓣 .C) (𝓣 .Λ) code.function) (λ κs. (LL.vals B.the-type B′.the-laws, (slice-vals, tt))) (λ κs. (LL.tells B.the-type B′.the-laws, (mut-slice-tells (named 0) (κs .0) T.the-row, tt)))
       (λ κs qs bounds a g are. via 𝓤 _ (fst∗ 𝓤 _ (emp 𝓤))
@@ -311,11 +311,11 @@ module _ {M : Type 1} (𝓤 : URA M) (H : Heap 𝓤) (A : Atoms 𝓤) (W : Given
   ci-meets : Meets 𝓤 H A ci.signature (WpFn 𝓤 H (𝓣 .C) (𝓣 .Λ) code.function) (ci.spec 𝓤 H A at-mem run)
   ci-meets = walk-meets 𝓤 H A ci.ended stayed W (goes-none 𝓤 H A W 1 (λ _. B.the-row) yes (λ κs x f. refl), (goes-slice 𝓤 H A W 1 0 tt (plain (λ _. T.the-row)), tt)) (ci.clauses 𝓤 H A at-mem run) (WpFn 𝓤 H (𝓣 .C) (𝓣 .Λ) code.function) (WpFn-mono 𝓤 H (W .laws) 𝓣 code.function) ci-walks
 
-pub close-into-spec : {M : Type 1} → stated.statement M
+pub oven-close-into-spec : {M : Type 1} → stated.statement M
 unfolding code.routine tablesOf
-close-into-spec 𝓤 H 𝓜 𝓖 𝓡 =
+oven-close-into-spec 𝓤 H 𝓜 𝓖 𝓡 =
     entered 𝓤 H (tripleOf 𝓤 H (𝓖 .A) ci.signature (ci.spec 𝓤 H (𝓖 .A) (𝓜 .mem) (𝓡 .run)))
-    (tables 𝓤 H 𝓜 𝓡 code.env .C) (tables 𝓤 H 𝓜 𝓡 code.env .Λ) #entries·close-into code.function (code.unfolded 𝓤 H 𝓜 𝓡)
+    (tables 𝓤 H 𝓜 𝓡 code.env .C) (tables 𝓤 H 𝓜 𝓡 code.env .Λ) #oven-close-into code.function (code.unfolded 𝓤 H 𝓜 𝓡)
     (ci-meets 𝓤 H (𝓖 .A) (givenOf 𝓤 H 𝓜 𝓖) (𝓜 .mem) (𝓡 .run) (tablesOf 𝓤 H 𝓜 (tables 𝓤 H 𝓜 𝓡 code.env))
-    (cited 𝓤 H (Cl 𝓤 H (𝓖 .A) (𝓜 .mem) (𝓡 .run)) 𝓜 𝓡 code.env #entries·closing cl-def.routine code.calls-entries·closing (cl-thm.met 𝓤 H 𝓜 𝓖 𝓡))
-    (cited 𝓤 H (Ea 𝓤 H (𝓖 .A) (𝓜 .mem) (𝓡 .run)) 𝓜 𝓡 code.env #entries·entry-at ea-def.routine code.calls-entries·entry-at (ea-thm.met 𝓤 H 𝓜 𝓖 𝓡)))
+    (cited 𝓤 H (Cl 𝓤 H (𝓖 .A) (𝓜 .mem) (𝓡 .run)) 𝓜 𝓡 code.env #closing cl-def.routine code.calls-boundary·entries·closing (cl-thm.met 𝓤 H 𝓜 𝓖 𝓡))
+    (cited 𝓤 H (Ea 𝓤 H (𝓖 .A) (𝓜 .mem) (𝓡 .run)) 𝓜 𝓡 code.env #entry-at ea-def.routine code.calls-boundary·entries·entry-at (ea-thm.met 𝓤 H 𝓜 𝓖 𝓡)))

@@ -7,10 +7,10 @@ use Rattle.board.specs.declared.Board.{Board}
 use Rattle.board.specs.Limits.{places-held}
 use Rattle.board.specs.Held.{slot-number}
 use Rattle.board.specs.Close.{given-up, closed}
-use Rattle.entries.specs.declared.Entry.{Entry}
-use Rattle.entries.specs.declared.Parts.{Parts}
-use Rattle.entries.specs.declared.Gone.{Gone}
-use Rattle.entries.specs.Listed.{EntriesAfter}
+use Rattle.boundary.specs.declared.entries.Entry.{Entry}
+use Rattle.boundary.specs.declared.entries.Parts.{Parts}
+use Rattle.boundary.specs.declared.entries.ClosedParts.{ClosedParts}
+use Rattle.boundary.specs.Listed.{EntriesAfter}
 
 unfoldable pub entry-at : Parts → ℕ → Entry
 entry-at p i = record { ticket = getD (p .tickets) i 0; grade = getD (p .grades) i 0; admitted = slot-number (getD (p .slots) i 0) }
@@ -21,7 +21,7 @@ written ys p zero = ys
 written ys p (suc n) = set (written ys p n) n (entry-at p n)
 
 -- a closing of the board b for a list of so many entries: it has room for the jobs given up, and holds them once they are written
-pub record Gathered (b : Board) (lent : ℕ) (r : Gone) : Type 0 where
+pub record Gathered (b : Board) (lent : ℕ) (r : ClosedParts) : Type 0 where
   pub answer : r .answer ≡ closed b lent
   pub few : r .count ≤ places-held
   pub room : r .count ≤ lent
