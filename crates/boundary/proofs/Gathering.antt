@@ -63,12 +63,12 @@ zeros = replicate 256 0
 abbrev pub first : ℕ → Lent
 first n = record { tickets = take n zeros; grades = take n zeros; slots = take n zeros }
 
-pub first-length : (lent n : ℕ) → n ≡ min lent 256 → length (take n zeros) ≡ n
-first-length lent n e = length-take-le n zeros (omega arith)
+pub first-length : (n : ℕ) → n ≤ 256 → length (take n zeros) ≡ n
+first-length n few = length-take-le n zeros (omega arith)
 
-first-entries : (lent n : ℕ) → n ≡ min lent 256 → entries (first n) ≡ n
+first-entries : (n : ℕ) → n ≤ 256 → entries (first n) ≡ n
 unfolding entries
-first-entries lent n e = omega (arith, first-length lent n e)
+first-entries n few = omega (arith, first-length n few)
 
 module _ (n : ℕ) (f : Job → ℕ) (X : List Job) where
   begins : (part : List ℕ) → part ≡ map f X ++ drop (length X) (take n zeros) → Begins f X (part ++ drop n zeros)
@@ -85,7 +85,7 @@ module _ (b : Board) (lent n : ℕ) (n-is : n ≡ min lent 256) (after : Lent) (
   by-refusal zero e l =
       let X = l .order in
       let count : r .expired ≡ length X = ap (λ (q : Closed). q .expired) answer ∙ all-expired _ b (sym (ap (λ (q : Closed). q .refusal) answer) ∙ e) ∙ sym (same-length (l .each-once)) in
-      let few : r .expired ≤ n = omega (arith, count, long, first-length lent n n-is, ap length (l .tickets), length-append (map (λ (j : Job). j .ticket) X) (drop (length X) (take n zeros)), length-map X (λ (j : Job). j .ticket)) in (
+      let few : r .expired ≤ n = omega (arith, count, long, first-length n (omega arith), ap length (l .tickets), length-append (map (λ (j : Job). j .ticket) X) (drop (length X) (take n zeros)), length-map X (λ (j : Job). j .ticket)) in (
         few,
         λ ys h. record {
           order = X;
@@ -104,4 +104,4 @@ module _ (b : Board) (lent n : ℕ) (n-is : n ≡ min lent 256) (after : Lent) (
   unfolding places-held
   gathered l =
       let both = by-refusal (r .refusal) refl l in
-      record { answer = answer ∙ ap (closed b) (first-entries lent n n-is ∙ n-is) ∙ closed-alike b lent; few = omega (arith, both .0); room = omega (arith, both .0); listed = both .1 }
+      record { answer = answer ∙ ap (closed b) (first-entries n (omega arith) ∙ n-is) ∙ closed-alike b lent; few = omega (arith, both .0); room = omega (arith, both .0); listed = both .1 }

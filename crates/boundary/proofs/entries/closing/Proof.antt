@@ -1,5 +1,6 @@
 -- `boundary::entries::closing`: the covered closing, into the first entries of three arrays. Assumes nothing.
 use mathlib.Core.Path.{sym}
+use native.Mathlib.Omega.{arith}
 use borrow.Author.Needs.{needs}
 use Rattle.boundary.proofs.Gathering.{first-length, gathered}
 use Rattle.boundary.proofs.entries.closing.Statement.{statement}
@@ -12,19 +13,19 @@ array-borrow-prefix-tickets : tie.Need-array-borrow-prefix-tickets
 array-borrow-prefix-tickets c = search needs
 
 slice-aggregate-close : tie.Need-slice-aggregate-close
-slice-aggregate-close c = let d = c .before in sym (first-length (d .before .args .lent) (d .lesser .result) (d .lesser .ensures))
+slice-aggregate-close c = let d = c .before in sym (first-length (d .lesser .result) (omega (arith, d .lesser .ensures)))
 
 array-borrow-prefix-grades : tie.Need-array-borrow-prefix-grades
 array-borrow-prefix-grades c = search needs
 
 slice-aggregate-close-2 : tie.Need-slice-aggregate-close-2
-slice-aggregate-close-2 c = let d = c .before .before in sym (first-length (d .before .args .lent) (d .lesser .result) (d .lesser .ensures))
+slice-aggregate-close-2 c = let d = c .before .before in sym (first-length (d .lesser .result) (omega (arith, d .lesser .ensures)))
 
 array-borrow-prefix-slots : tie.Need-array-borrow-prefix-slots
 array-borrow-prefix-slots c = search needs
 
 slice-aggregate-close-3 : tie.Need-slice-aggregate-close-3
-slice-aggregate-close-3 c = let d = c .before .before .before in sym (first-length (d .before .args .lent) (d .lesser .result) (d .lesser .ensures))
+slice-aggregate-close-3 c = let d = c .before .before .before in sym (first-length (d .lesser .result) (omega (arith, d .lesser .ensures)))
 
 close-requires : tie.Need-close-requires
 close-requires c κs = search needs
