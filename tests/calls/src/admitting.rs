@@ -1,7 +1,7 @@
 //! Opening, soundness and admitting, here and there.
 
 use crate::convert;
-use crate::count::number;
+use crate::refusals::{self, number};
 use model::board::{self, Board};
 use model::calls;
 use model::draw::Draw;
@@ -12,10 +12,10 @@ pub fn opening(depth: u32) -> bool {
     let (board, answer) = board::open(depth);
     let expected = convert::board(&board);
     let opened = oven::calls::open(depth);
-    let board = oven::Board::open(depth).map_err(|refusal| refusal.number());
+    let board = oven::Board::open(depth).map_err(|r| (r, r.number()));
     opened.refusal == number(&answer)
         && opened.board == expected
-        && board == answer.map(|()| expected).map_err(|r| r.number() as u8)
+        && board == answer.map(|()| expected).map_err(refusals::opening)
 }
 
 pub fn soundness(board: &Board) -> bool {
@@ -40,9 +40,10 @@ pub fn admits(board: &mut Board, ticket: u32, wait: u32, grade: u32) -> bool {
     let admitted = oven::calls::admit(given, ticket, Wait(wait), grade);
     let mut ours = given;
     let last = ours.admit(ticket, Wait(wait), grade);
+    let last = last.map(|slot| slot.0).map_err(|r| (r, r.number()));
     admitted.refusal == number(&answer)
         && admitted.last.0 == *answer.as_ref().unwrap_or(&0)
         && admitted.board == after
         && ours == after
-        && last.map(|slot| slot.0).map_err(|r| r.number()) == answer.map_err(|r| r.number() as u8)
+        && last == answer.map_err(refusals::admitting)
 }

@@ -1,13 +1,13 @@
 //! Closing, here and there, with a lent list of entries and with one in three parts.
 
 use crate::convert;
-use crate::count::number;
+use crate::refusals::{self, number};
 use model::board::Board;
 use model::calls;
 use model::draw::Draw;
 use model::refusal::Refusal;
 use oven::calls::CloseAnswer;
-use oven::{Baked, Closed, Entry, Slot};
+use oven::{Baked, CloseRefusal, Closed, Entry, Slot};
 
 /// Lengths of a lent list, often long enough.
 const LENGTHS: [usize; 8] = [0, 1, 255, 256, 256, 256, 257, 300];
@@ -64,7 +64,7 @@ pub fn closes_into(draw: &mut Draw, board: &mut Board, lent: usize) -> bool {
     let (mut list, mut ours, mut lent_ours) = (before.clone(), given, before.clone());
     let answer = calls::close(board, lent);
     let closed = oven::calls::close_into(given, &mut list);
-    let done = ours.close(&mut lent_ours).map_err(|r| r.number());
+    let done = ours.close(&mut lent_ours).map_err(|r| (r, r.number()));
     let wanted = given_up(&answer);
     let gone = wanted.len();
     answers(&closed, &answer, board)
@@ -117,8 +117,10 @@ fn answers(closed: &CloseAnswer, answer: &Result<calls::Closed, Refusal>, board:
 }
 
 /// The model's answer as the crate's comfortable layer gives it.
-fn comfortable(answer: &Result<calls::Closed, Refusal>) -> Result<Closed, u8> {
-    let closed = answer.as_ref().map_err(|r| r.number() as u8)?;
+fn comfortable(
+    answer: &Result<calls::Closed, Refusal>,
+) -> Result<Closed, refusals::Numbered<CloseRefusal>> {
+    let closed = answer.as_ref().map_err(|r| refusals::closing(*r))?;
     let baked = Baked {
         ticket: closed.ticket,
         grade: closed.grade as u8,

@@ -1,7 +1,5 @@
 //! Checks that passed and failed.
 
-use model::refusal::Refusal;
-
 /// How many checks passed and failed.
 #[derive(Default)]
 pub struct Count {
@@ -21,12 +19,4 @@ impl Count {
             println!("{name}: check {} differs", self.passed + self.failed);
         }
     }
-}
-
-/// The number of the model's answer.
-pub fn number<T>(answer: &Result<T, Refusal>) -> u8 {
-    answer
-        .as_ref()
-        .err()
-        .map_or(0, |refusal| refusal.number() as u8)
 }

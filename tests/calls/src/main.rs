@@ -9,6 +9,7 @@ mod boards;
 mod closing;
 mod convert;
 mod count;
+mod refusals;
 mod tallies;
 
 use model::draw::Draw;

@@ -1,6 +1,6 @@
 //! One event on a tally, here and there.
 
-use crate::count::number;
+use crate::refusals::{self, number};
 use model::draw::Draw;
 use model::limits::FULL_COUNT;
 use model::tally;
@@ -31,21 +31,22 @@ pub fn event(draw: &mut Draw) -> bool {
     let given = converted(&expected);
     let kind = draw.pick(&[0, 1, 2, 2, 3, u32::MAX]);
     let grade = draw.pick(&[0, 3, 6, 7, 8, u32::MAX]);
-    let refusal = number(&expected.record(kind, grade));
+    let answer = expected.record(kind, grade);
+    let refusal = number(&answer);
     let after = converted(&expected);
     let counted = oven::calls::count(given, kind, grade);
     let (mut lent, mut ours) = (given, given);
     let noted = oven::calls::note(&mut lent, kind, grade);
     let done = KINDS
         .get(kind as usize)
-        .map(|&kind| ours.count(kind, grade));
+        .map(|&kind| ours.count(kind, grade).map_err(|r| (r, r.number())));
     counted.refusal == refusal
         && counted.tally == after
         && noted == refusal
         && lent == after
         && ours == after
         && done.map_or(refusal == 9, |done| {
-            done.map_or_else(|r| r.number(), |()| 0) == refusal
+            done == answer.map_err(refusals::counting)
         })
         && KINDS
             .iter()
