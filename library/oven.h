@@ -6,7 +6,7 @@
  *
  * A board is a struct that the caller keeps. It goes into a call by value and comes back in the answer: keep what came back,
  * also after a refusal, and write nothing into it yourself. The calls keep nothing between them, so different boards may be used
- * at the same time. No call fails in any other way than by the number in its answer, and each one returns, whatever it is given.
+ * at the same time. Whatever numbers a call is given, it returns, and says by the number in its answer whether it refused.
  */
 #ifndef OVEN_H
 #define OVEN_H
@@ -29,7 +29,7 @@ extern "C" {
 #define OVEN_KINDS 3
 #define OVEN_GRADES 8
 
-/* The numbers of the refusals. The first that fails, in this order, is the one given. */
+/* The numbers of the refusals. A call checks in this order, and gives the first that holds. */
 enum oven_refusal {
     OVEN_NOT_REFUSED = 0,
     OVEN_REFUSED_DEPTH = 1,         /* opening: depth above 3; the returned board is all zero */
@@ -117,14 +117,14 @@ typedef struct oven_counted {
 
 /*
  * The calls. OVEN_STACK_.. is the stack, in bytes, that suffices for a call: its own, and the board or tally that it is given and
- * answers by value. Where that is above 4,096 it has 3,200 to spare for the program's loader, which may bind memcpy at the first call.
+ * answers by value. Where boards pass it has room for the system's loader too, which may bind memcpy at the first call.
  */
 
 /* A new board of this depth, 0 to 3: slot 1, highest ticket 0, no racks. Refuses with 1; the board is then all zero. */
 #define OVEN_STACK_OPEN 12288
 oven_opened oven_open(uint32_t depth);
 
-/* Whether a board is sound. Every board is that came back from opening, admitting or closing without number 1 or 2. */
+/* Whether a board is sound. A board that comes back from opening, admitting or closing is, unless the number is 1 or 2. */
 #define OVEN_STACK_SOUND 12288
 bool oven_sound(oven_board board);
 
@@ -138,15 +138,14 @@ oven_admitted oven_admit(oven_board board, uint32_t ticket, oven_wait wait, uint
 /*
  * Closes the present slot: answers the rack to bake, gives up every other rack whose last slot it is, and moves to the next slot.
  * The racks given up are written from the start of the list that the caller lends, each once, in any order; the entries after them
- * keep what they had. Refuses with 2, 3 or 8; board and list are then as they were.
- * `list` points to `length` entries.
+ * keep what they had. Refuses with 2, 3 or 8; board and list are then as they were. `list` points to `length` entries.
  */
 #define OVEN_STACK_CLOSE_INTO 69632
 oven_closed oven_close_into(oven_board board, oven_entry *list, size_t length);
 
 /*
- * The same with the list in three parts, so that a rack given up has its ticket, its grade and the slot in which it was admitted at
- * one place of each. The list has as many entries as the shortest part. The parts do not overlap.
+ * The same with the list in three parts: tickets, grades, and the slots of admitting. A rack given up has the same place in each.
+ * The list has as many entries as its shortest part. The parts do not overlap.
  */
 #define OVEN_STACK_CLOSE 65536
 oven_closed oven_close(oven_board board, uint32_t *tickets, size_t tickets_length, uint8_t *grades, size_t grades_length,
@@ -156,7 +155,7 @@ oven_closed oven_close(oven_board board, uint32_t *tickets, size_t tickets_lengt
 #define OVEN_STACK_ZERO 256
 oven_tally oven_zero(void);
 
-/* Takes in one event, of an oven_kind and a grade, and answers its number. Refuses with 9 or 10; the tally is then as it was. */
+/* Takes in one event, of an oven_kind and a grade. Answers 0, or refuses with 9 or 10; the tally is then as it was. */
 #define OVEN_STACK_NOTE 512
 uint8_t oven_note(oven_tally *tally, uint32_t kind, uint32_t grade);
 

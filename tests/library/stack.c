@@ -1,6 +1,6 @@
 /*
- * Each call on empty and full boards, refused ones too: its number, and the stack that it takes. The header's figure suffices, and is not
- * more than twice what is taken at the most. The last line is 'N passed, M failed'.
+ * Each call on empty and full boards, refused ones too: its number, and the stack that it takes. The header's figure suffices, and
+ * is not more than twice what is taken at the most. The last line is 'N passed, M failed'.
  */
 #include "tried.h"
 
@@ -74,8 +74,9 @@ int main(void) {
     try_ended();
     try_tally();
     for (int call = 0; call < CALLS; call++) {
-        printf("%-15s takes %5zu bytes of stack at the most, the header says %5zu\n", calls[call].name, calls[call].most, calls[call].figure);
-        expect(calls[call].figure <= 2 * calls[call].most, call, "the header says more than twice what is taken");
+        size_t most = calls[call].most, figure = calls[call].figure;
+        printf("%-15s takes %5zu bytes of stack at the most, the header says %5zu\n", calls[call].name, most, figure);
+        expect(figure <= 2 * most, call, "the header says more than twice what is taken");
     }
     printf("%u passed, %u failed\n", passed, failed);
     return failed > 0;
