@@ -1,9 +1,10 @@
 //! Single calls: closing a full board, admitting on a nearly full one.
 
-use crate::boundary;
+use crate::convert;
 use model::board::{Board, Job};
 use model::calls;
 use model::draw::Draw;
+use oven::{Slot, Wait};
 use std::hint::black_box;
 use std::time::{Duration, Instant};
 
@@ -77,13 +78,13 @@ fn show(name: &str, ours: Duration, model: Duration, sorted: Option<Duration>) {
 
 /// Closes a board; the lent lists are cleared once, before all calls.
 pub fn closing(name: &str, board: &Board) {
-    let given = boundary::board(board);
-    let (mut tickets, mut grades, mut slots) = ([0; 256], [0; 256], [0; 256]);
+    let given = convert::board(board);
+    let (mut tickets, mut grades, mut slots) = ([0; 256], [0; 256], [Slot(0); 256]);
     let by_sorting =
         |jobs: &[Job], slot, depth| benchmark::job_to_bake(&mut jobs.to_vec(), slot, depth);
     let [ours, model, sorted] = least([
         &mut || {
-            keep(boundary::close(
+            keep(oven::calls::close(
                 black_box(given),
                 &mut tickets,
                 &mut grades,
@@ -104,10 +105,10 @@ pub fn closing(name: &str, board: &Board) {
 
 /// Admits one rack more on a board.
 pub fn admitting(name: &str, board: &Board) {
-    let given = boundary::board(board);
+    let given = convert::board(board);
     let ticket = board.highest_ticket + 1;
     let [ours, model] = least([
-        &mut || keep(boundary::admit(black_box(given), ticket, 9, 4)),
+        &mut || keep(oven::calls::admit(black_box(given), ticket, Wait(9), 4)),
         &mut || keep(calls::admit(&mut black_box(board.clone()), ticket, 9, 4)),
     ]);
     show(name, ours, model, None);
@@ -115,9 +116,9 @@ pub fn admitting(name: &str, board: &Board) {
 
 /// Opens a board, which does little else than to hand one over; and asks whether a board is sound.
 pub fn parts(board: &Board) {
-    let given = boundary::board(board);
-    let [opening, soundness] = least([&mut || keep(boundary::open(black_box(3))), &mut || {
-        keep(boundary::sound(black_box(given)))
+    let given = convert::board(board);
+    let [opening, soundness] = least([&mut || keep(oven::calls::open(black_box(3))), &mut || {
+        keep(oven::calls::sound(black_box(given)))
     }]);
     println!("of these: a board made and handed over {opening:.1?}, a check of soundness {soundness:.1?}");
 }

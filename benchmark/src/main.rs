@@ -1,11 +1,10 @@
 //! The board beside the model and beside a Rust program that sorts, as ratios from one run.
 //!
-//! Arguments: our program, the model's, the one that sorts. The calls go over the C boundary.
+//! Arguments: our program, the model's, the one that sorts. The calls go by the library's Rust crate.
 
-#[allow(dead_code)]
-#[path = "../../tests/calls/src/boundary.rs"]
-mod boundary;
 mod calls;
+#[path = "../../tests/calls/src/convert.rs"]
+mod convert;
 mod days;
 
 use calls::Spread;

@@ -5,7 +5,7 @@ ghost use Rattle.board.specs.Open.{opened};
 ghost use Rattle.board.specs.Admit.{admitted};
 ghost use Rattle.board.specs.Close.{closed, given-up};
 ghost use Rattle.board.specs.Lent.{entries, LentAfter};
-ghost use Rattle.board.specs.Tally.{counted};
+ghost use Rattle.board.specs.Tally.{zero-tally, counted};
 use board::Admitted;
 use board::Board;
 use board::Closed;
@@ -13,6 +13,9 @@ use board::Counted;
 use board::Laxity;
 use board::Opened;
 use board::Tally;
+
+pub mod entries;
+pub mod lent;
 
 #[no_mangle]
 pub extern "C" fn oven_sound(b: Board) -> bool
@@ -53,4 +56,11 @@ pub extern "C" fn oven_count(t: Tally, kind: u32, grade: u32) -> Counted
     ensures { λ r. ⌜ r ≡ counted t kind grade ⌝ }
 {
     tally::count_event(t, kind, grade)
+}
+
+#[no_mangle]
+pub extern "C" fn oven_zero() -> Tally
+    ensures { λ r. ⌜ r ≡ zero-tally ⌝ }
+{
+    tally::zero()
 }

@@ -87,7 +87,10 @@ fn unwritten(read: u64, written: u64) -> Outcome
 fn too_long(read: u64, written: u64) -> Outcome
     ensures { λ r. ⌜ r ≡ record { ended = TooLong; read = read; written = written } ⌝ }
 {
-    streams::write_all(STDERR_FILENO, b"oven: more than 281474976710656 bytes of input\n");
+    streams::write_all(
+        STDERR_FILENO,
+        b"oven: more than 281474976710656 bytes of input\n",
+    );
     Outcome {
         ended: Ended::TooLong,
         read,

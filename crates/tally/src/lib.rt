@@ -6,8 +6,6 @@ ghost use Rattle.board.specs.Tally.{zero-tally, counted};
 use board::Counted;
 use board::Tally;
 
-pub mod lent;
-
 // Admitted, baked, given up.
 const KINDS: u32 = 3;
 

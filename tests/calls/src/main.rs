@@ -1,14 +1,19 @@
-//! Compares the board's calls, over the C boundary, with the model's.
+//! Compares the library's calls, by both layers of its Rust crate, with the model's.
 //!
 //! Random sound boards, full ones, boards damaged in one clause, boundary boards,
 //! short lent lists, tallies at their limits, and runs of calls. Its last line is
 //! 'N passed, M failed'.
 
+mod admitting;
 mod boards;
-mod boundary;
-mod checks;
+mod closing;
+mod convert;
+mod count;
+mod refusals;
+mod tallies;
 
 use model::draw::Draw;
+use model::samples;
 use std::process;
 
 /// Boards tried.
@@ -18,24 +23,46 @@ const TALLIES: u64 = 20_000;
 /// Runs of calls tried.
 const RUNS: u64 = 300;
 
+/// Calls one after the other on one board, each on what the call before handed back.
+fn run(draw: &mut Draw) -> bool {
+    let mut board = samples::board(draw, 12);
+    (0..60).all(|_| {
+        if draw.one_in(3) {
+            if draw.one_in(2) {
+                return closing::closes_into(draw, &mut board, 256);
+            }
+            let lent = if draw.one_in(9) {
+                [255, 256, 256]
+            } else {
+                [256, 256, 256]
+            };
+            return closing::closes_in_parts(draw, &mut board, lent);
+        }
+        let ticket = board.highest_ticket.saturating_add(draw.between(0, 3));
+        let (wait, grade) = (draw.between(0, 33), draw.between(0, 8));
+        admitting::admits(&mut board, ticket, wait, grade)
+    })
+}
+
 fn main() {
     let mut draw = Draw::new(20_261);
-    let mut count = checks::Count::default();
+    let mut count = count::Count::default();
     for depth in (0..10).chain([255, 256, u32::MAX]) {
-        count.take("opening", checks::opening(depth));
+        count.take("opening", admitting::opening(depth));
     }
     for number in 0..BOARDS {
         let board = boards::board(&mut draw, number);
-        count.take("soundness", checks::soundness(&board));
-        count.take("admitting", checks::admitting(&mut draw, &board));
-        count.take("closing", checks::closing(&mut draw, &board));
-        count.take("closing, entries", checks::closing_entries(&mut draw, &board));
+        count.take("soundness", admitting::soundness(&board));
+        count.take("admitting", admitting::admitting(&mut draw, &board));
+        count.take("closing, parts", closing::in_parts(&mut draw, &board));
+        count.take("closing, entries", closing::into_list(&mut draw, &board));
     }
+    count.take("zero tally", tallies::zero());
     for _ in 0..TALLIES {
-        count.take("tally", checks::tally(&mut draw));
+        count.take("event", tallies::event(&mut draw));
     }
     for _ in 0..RUNS {
-        count.take("run", checks::run(&mut draw));
+        count.take("run", run(&mut draw));
     }
     println!("{} passed, {} failed", count.passed, count.failed);
     process::exit(i32::from(count.failed > 0));

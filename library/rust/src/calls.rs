@@ -1,0 +1,53 @@
+//! The library's calls with their answers as they come: the number of a refusal, or 0, and the board or tally that came back.
+
+use crate::{Board, Slot, Tally};
+
+pub use crate::declared::{admit, close, close_into, count, note, open, sound, zero};
+
+/// What opening answers.
+#[repr(C)]
+#[derive(Clone, Copy, Debug, PartialEq, Eq)]
+pub struct OpenAnswer {
+    /// The number of a refusal, or 0.
+    pub refusal: u8,
+    /// The board; all zero after a refusal.
+    pub board: Board,
+}
+
+/// What admitting answers.
+#[repr(C)]
+#[derive(Clone, Copy, Debug, PartialEq, Eq)]
+pub struct AdmitAnswer {
+    /// The number of a refusal, or 0.
+    pub refusal: u8,
+    /// The rack's last slot; 0 after a refusal.
+    pub last: Slot,
+    /// The board that came back.
+    pub board: Board,
+}
+
+/// What closing answers.
+#[repr(C)]
+#[derive(Clone, Copy, Debug, PartialEq, Eq)]
+pub struct CloseAnswer {
+    /// The number of a refusal, or 0.
+    pub refusal: u8,
+    /// The rack baked; 0 for none.
+    pub ticket: u32,
+    /// Its grade.
+    pub grade: u8,
+    /// How many racks are given up.
+    pub given_up: u32,
+    /// The board that came back.
+    pub board: Board,
+}
+
+/// What a tally answers to an event.
+#[repr(C)]
+#[derive(Clone, Copy, Debug, PartialEq, Eq)]
+pub struct CountAnswer {
+    /// The number of a refusal, or 0.
+    pub refusal: u8,
+    /// The tally that came back.
+    pub tally: Tally,
+}

@@ -1,0 +1,132 @@
+//! Closing, here and there, with a lent list of entries and with one in three parts.
+
+use crate::convert;
+use crate::refusals::{self, number};
+use model::board::Board;
+use model::calls;
+use model::draw::Draw;
+use model::refusal::Refusal;
+use oven::calls::CloseAnswer;
+use oven::{Baked, CloseRefusal, Closed, Entry, Slot};
+
+/// Lengths of a lent list, often long enough.
+const LENGTHS: [usize; 8] = [0, 1, 255, 256, 256, 256, 257, 300];
+
+/// Closes with a list in parts that are often long enough.
+pub fn in_parts(draw: &mut Draw, board: &Board) -> bool {
+    let lent = [
+        draw.pick(&LENGTHS),
+        draw.pick(&LENGTHS),
+        draw.pick(&LENGTHS),
+    ];
+    let lent = if draw.one_in(3) {
+        lent
+    } else {
+        [256, 260, 256]
+    };
+    closes_in_parts(draw, &mut board.clone(), lent)
+}
+
+/// Closes with a list that is often long enough.
+pub fn into_list(draw: &mut Draw, board: &Board) -> bool {
+    let lent = draw.pick(&LENGTHS);
+    closes_into(draw, &mut board.clone(), lent)
+}
+
+/// Closes on a board of the model, and on the same with a list in parts of these lengths.
+pub fn closes_in_parts(draw: &mut Draw, board: &mut Board, lent: [usize; 3]) -> bool {
+    let given = convert::board(board);
+    let before = entries(draw, 300);
+    let mut tickets = part(&before[..lent[0]], |entry| entry.ticket);
+    let mut grades = part(&before[..lent[1]], |entry| entry.grade);
+    let mut slots = part(&before[..lent[2]], |entry| entry.admitted);
+    let shortest = lent.iter().copied().min().unwrap_or(0);
+    let answer = calls::close(board, shortest);
+    let closed = oven::calls::close(given, &mut tickets, &mut grades, &mut slots);
+    let wanted = given_up(&answer);
+    let gone = wanted.len();
+    let listed = (0..gone).map(|i| Entry {
+        ticket: tickets[i],
+        grade: grades[i],
+        admitted: slots[i],
+    });
+    answers(&closed, &answer, board)
+        && sorted(listed.collect()) == wanted
+        && tickets[gone..] == part(&before[gone..lent[0]], |entry| entry.ticket)
+        && grades[gone..] == part(&before[gone..lent[1]], |entry| entry.grade)
+        && slots[gone..] == part(&before[gone..lent[2]], |entry| entry.admitted)
+}
+
+/// Closes on a board of the model, and by both layers of the crate on the same with a list of so many entries.
+pub fn closes_into(draw: &mut Draw, board: &mut Board, lent: usize) -> bool {
+    let given = convert::board(board);
+    let before = entries(draw, lent);
+    let (mut list, mut ours, mut lent_ours) = (before.clone(), given, before.clone());
+    let answer = calls::close(board, lent);
+    let closed = oven::calls::close_into(given, &mut list);
+    let done = ours.close(&mut lent_ours).map_err(|r| (r, r.number()));
+    let wanted = given_up(&answer);
+    let gone = wanted.len();
+    answers(&closed, &answer, board)
+        && sorted(list[..gone].to_vec()) == wanted
+        && list[gone..] == before[gone..]
+        && ours == closed.board
+        && lent_ours == list
+        && done == comfortable(&answer)
+}
+
+/// So many entries of any numbers.
+fn entries(draw: &mut Draw, count: usize) -> Vec<Entry> {
+    let entry = |_| Entry {
+        ticket: draw.step() as u32,
+        grade: draw.step() as u8,
+        admitted: Slot(draw.step() as u32),
+    };
+    (0..count).map(entry).collect()
+}
+
+/// One part of each entry.
+fn part<T>(entries: &[Entry], of: impl Fn(&Entry) -> T) -> Vec<T> {
+    entries.iter().map(of).collect()
+}
+
+fn sorted(mut entries: Vec<Entry>) -> Vec<Entry> {
+    entries.sort_unstable();
+    entries
+}
+
+/// The racks that the model gives up, sorted.
+fn given_up(answer: &Result<calls::Closed, Refusal>) -> Vec<Entry> {
+    let expired = answer.iter().flat_map(|closed| &closed.expired);
+    let entry = |e: &calls::Expired| Entry {
+        ticket: e.ticket,
+        grade: e.grade as u8,
+        admitted: Slot(e.admitted),
+    };
+    sorted(expired.map(entry).collect())
+}
+
+/// Whether an answer has the model's number, rack and board.
+fn answers(closed: &CloseAnswer, answer: &Result<calls::Closed, Refusal>, board: &Board) -> bool {
+    let (ticket, grade) = answer.as_ref().map_or((0, 0), |a| (a.ticket, a.grade));
+    closed.refusal == number(answer)
+        && closed.ticket == ticket
+        && u32::from(closed.grade) == grade
+        && closed.given_up as usize == given_up(answer).len()
+        && closed.board == convert::board(board)
+}
+
+/// The model's answer as the crate's comfortable layer gives it.
+fn comfortable(
+    answer: &Result<calls::Closed, Refusal>,
+) -> Result<Closed, refusals::Numbered<CloseRefusal>> {
+    let closed = answer.as_ref().map_err(|r| refusals::closing(*r))?;
+    let baked = Baked {
+        ticket: closed.ticket,
+        grade: closed.grade as u8,
+    };
+    Ok(Closed {
+        baked: (closed.ticket > 0).then_some(baked),
+        given_up: closed.expired.len(),
+    })
+}

@@ -1,0 +1,23 @@
+//! A board of the model as the library has it.
+
+use model::board::{self, Job};
+use oven::{Board, Place, Slot};
+
+pub fn board(b: &board::Board) -> Board {
+    Board {
+        depth: b.depth as u8,
+        slot: Slot(b.slot),
+        highest: b.highest_ticket,
+        count: b.count as usize,
+        places: b.places.map(place),
+    }
+}
+
+fn place(job: Job) -> Place {
+    Place {
+        ticket: job.ticket,
+        admitted: Slot(job.admitted),
+        last: Slot(job.deadline),
+        grade: job.grade as u8,
+    }
+}

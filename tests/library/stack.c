@@ -1,0 +1,83 @@
+/*
+ * Each call on empty and full boards, refused ones too: its number, and the stack that it takes. The header's figure suffices, and
+ * is not more than twice what is taken at the most. The last line is 'N passed, M failed'.
+ */
+#include "tried.h"
+
+/* A board of this depth in slot 100 with so many racks, eight a slot, the last of them in this one; all due now, or spread. */
+static oven_board board_with(uint32_t depth, uint32_t held, bool due) {
+    oven_board board = oven_open(depth).board;
+    board.slot.number = 100;
+    board.highest = held;
+    board.count = held;
+    for (uint32_t i = 0; i < held; i++) {
+        uint32_t admitted = 100 - (held - 1 - i) / OVEN_MOST_IN_SLOT;
+        uint32_t longest = admitted + OVEN_LONGEST_WAIT - 100;
+        uint32_t last = due ? 100 : 100 + i * 7 % longest;
+        oven_place place = {i + 1, {admitted}, {last}, (uint8_t)(i % (1u << depth))};
+        board.places[i] = place;
+    }
+    return board;
+}
+
+/* Every answer that a sound board can give but row 3's. */
+static void try_board(uint32_t depth, uint32_t held, bool due) {
+    oven_board board = board_with(depth, held, due);
+    uint32_t ticket = board.highest + 1;
+    uint8_t number = held < OVEN_MOST_IN_SLOT ? OVEN_NOT_REFUSED : OVEN_REFUSED_SLOT_FULL;
+    try_sound(board, true);
+    try_admit(board, ticket, OVEN_LONGEST_WAIT, 0, number);
+    try_admit(board, ticket - 1, 1, 0, OVEN_REFUSED_TICKET);
+    try_admit(board, ticket, OVEN_LONGEST_WAIT + 1, 0, OVEN_REFUSED_WAIT);
+    try_admit(board, ticket, 1, 1u << depth, OVEN_REFUSED_GRADE);
+    try_close(board, OVEN_PLACES - 1, OVEN_REFUSED_LIST_SHORT);
+    try_close(board, OVEN_PLACES, OVEN_NOT_REFUSED);
+}
+
+static void try_depth(uint32_t depth) {
+    try_open(depth, OVEN_NOT_REFUSED);
+    for (uint32_t held = 0; held <= OVEN_PLACES; held += 4) {
+        try_board(depth, held, false);
+        try_board(depth, held, true);
+    }
+}
+
+static void try_unsound(void) {
+    oven_board board = board_with(3, OVEN_PLACES, false);
+    board.highest = OVEN_PLACES - 1;
+    try_sound(board, false);
+    try_admit(board, OVEN_PLACES + 1, 1, 0, OVEN_REFUSED_UNSOUND);
+    try_close(board, OVEN_PLACES, OVEN_REFUSED_UNSOUND);
+}
+
+static void try_ended(void) {
+    oven_board board = oven_open(3).board;
+    board.slot.number = OVEN_LAST_SLOT;
+    try_close(board, OVEN_PLACES, OVEN_NOT_REFUSED);
+    board = answer.closed.board;
+    try_admit(board, 1, 1, 0, OVEN_REFUSED_BOOK_ENDED);
+    try_close(board, OVEN_PLACES, OVEN_REFUSED_BOOK_ENDED);
+}
+
+static void try_tally(void) {
+    try_count(OVEN_KIND_GIVEN_UP, OVEN_GRADES - 1, 0, OVEN_NOT_REFUSED);
+    try_count(OVEN_KINDS, 0, 0, OVEN_REFUSED_NO_SUCH_COUNT);
+    try_count(OVEN_KIND_BAKED, OVEN_GRADES, 0, OVEN_REFUSED_NO_SUCH_COUNT);
+    try_count(OVEN_KIND_ADMITTED, 0, 8000000, OVEN_REFUSED_COUNT_FULL);
+    measure(ZERO);
+}
+
+int main(void) {
+    for (uint32_t depth = 0; depth <= 3; depth++) try_depth(depth);
+    try_open(4, OVEN_REFUSED_DEPTH);
+    try_unsound();
+    try_ended();
+    try_tally();
+    for (int call = 0; call < CALLS; call++) {
+        size_t most = calls[call].most, figure = calls[call].figure;
+        printf("%-15s takes %5zu bytes of stack at the most, the header says %5zu\n", calls[call].name, most, figure);
+        expect(figure <= 2 * most, call, "the header says more than twice what is taken");
+    }
+    printf("%u passed, %u failed\n", passed, failed);
+    return failed > 0;
+}

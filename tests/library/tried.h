@@ -1,0 +1,117 @@
+/*
+ * A call tried on something given: its number beside the expected one, and the stack that it takes beside the header's figure.
+ */
+#include "oven.h"
+#include "painted.h"
+
+#include <stdio.h>
+
+/* What a call is given, and what it answers. */
+static struct {
+    oven_board board;
+    uint32_t depth, ticket, grade, kind;
+    oven_wait wait;
+    size_t length;
+    oven_tally tally;
+} given;
+
+static struct {
+    bool sound;
+    uint8_t number;
+    oven_opened opened;
+    oven_admitted admitted;
+    oven_closed closed;
+    oven_counted counted;
+    oven_tally tally;
+} answer;
+
+static oven_entry list[OVEN_PLACES];
+static uint32_t tickets[OVEN_PLACES];
+static uint8_t grades[OVEN_PLACES];
+static oven_slot slots[OVEN_PLACES];
+
+static void open_board(void) { answer.opened = oven_open(given.depth); }
+static void is_sound(void) { answer.sound = oven_sound(given.board); }
+static void admit(void) { answer.admitted = oven_admit(given.board, given.ticket, given.wait, given.grade); }
+static void close_into(void) { answer.closed = oven_close_into(given.board, list, given.length); }
+static void close_parts(void) {
+    answer.closed = oven_close(given.board, tickets, given.length, grades, given.length, slots, given.length);
+}
+static void zero(void) { answer.tally = oven_zero(); }
+static void note(void) { answer.number = oven_note(&given.tally, given.kind, given.grade); }
+static void count(void) { answer.counted = oven_count(given.tally, given.kind, given.grade); }
+
+/* The calls, with the header's figure and the most that was seen. */
+enum call { OPEN, SOUND, ADMIT, CLOSE_INTO, CLOSE, ZERO, NOTE, COUNT, CALLS };
+
+static struct {
+    const char *name;
+    void (*run)(void);
+    size_t figure, most;
+} calls[CALLS] = {
+    {"oven_open", open_board, OVEN_STACK_OPEN, 0},
+    {"oven_sound", is_sound, OVEN_STACK_SOUND, 0},
+    {"oven_admit", admit, OVEN_STACK_ADMIT, 0},
+    {"oven_close_into", close_into, OVEN_STACK_CLOSE_INTO, 0},
+    {"oven_close", close_parts, OVEN_STACK_CLOSE, 0},
+    {"oven_zero", zero, OVEN_STACK_ZERO, 0},
+    {"oven_note", note, OVEN_STACK_NOTE, 0},
+    {"oven_count", count, OVEN_STACK_COUNT, 0},
+};
+
+static unsigned passed, failed;
+
+static void expect(bool holds, enum call call, const char *what) {
+    if (holds) {
+        passed++;
+        return;
+    }
+    failed++;
+    if (failed <= 5) printf("%s: %s\n", calls[call].name, what);
+}
+
+static void measure(enum call call) {
+    size_t taken = stack_of(calls[call].run);
+    if (calls[call].most < taken) calls[call].most = taken;
+    expect(taken <= calls[call].figure, call, "takes more stack than the header says");
+}
+
+static void try_open(uint32_t depth, uint8_t number) {
+    given.depth = depth;
+    measure(OPEN);
+    expect(answer.opened.refusal == number, OPEN, "another number");
+}
+
+static void try_sound(oven_board board, bool sound) {
+    given.board = board;
+    measure(SOUND);
+    expect(answer.sound == sound, SOUND, "another answer");
+}
+
+static void try_admit(oven_board board, uint32_t ticket, uint32_t wait, uint32_t grade, uint8_t number) {
+    given.board = board;
+    given.ticket = ticket;
+    given.wait.slots = wait;
+    given.grade = grade;
+    measure(ADMIT);
+    expect(answer.admitted.refusal == number, ADMIT, "another number");
+}
+
+static void try_close(oven_board board, size_t length, uint8_t number) {
+    given.board = board;
+    given.length = length;
+    measure(CLOSE_INTO);
+    expect(answer.closed.refusal == number, CLOSE_INTO, "another number");
+    measure(CLOSE);
+    expect(answer.closed.refusal == number, CLOSE, "another number");
+}
+
+static void try_count(uint32_t kind, uint32_t grade, uint32_t before, uint8_t number) {
+    given.kind = kind;
+    given.grade = grade;
+    for (size_t i = 0; i < OVEN_KINDS * OVEN_GRADES; i++) given.tally.counts[i] = before;
+    measure(COUNT);
+    expect(answer.counted.refusal == number, COUNT, "another number");
+    measure(NOTE);
+    expect(answer.number == number, NOTE, "another number");
+}
