@@ -1,6 +1,6 @@
 pub mod Rows
 pub mod HeldAfter
 pub mod SoundAfterAdmitting
-pub mod SoundAfterClosing
+pub mod SoundAfterThinning
 pub mod SoundAfter
 pub mod SoundAfterOpening

@@ -1,14 +1,15 @@
 -- The jobs on a board.
-use mathlib.Core.Bool.{Bool, _&&_}
-use mathlib.Core.List.{List, map}
-use Prim.Native.Nat.{ℕ}
+use mathlib.Core.Bool.{Bool}
+use mathlib.Core.List.{List, _++_, map}
+use Prim.Native.Nat.{ℕ, _-_}
 use lib.Dec.{eqb}
-use lib.ListN.{take}
-use Rattle.lists.specs.Select.{how-many}
+use lib.ListN.{length, take, replicate}
+use Rattle.lists.specs.Select.{select, how-many}
 use Rattle.rule.specs.Job.{Job}
 use Rattle.board.specs.declared.Place.{Place}
 use Rattle.board.specs.declared.Slot.{Slot}
 use Rattle.board.specs.declared.Board.{Board}
+use Rattle.board.specs.Limits.{places-held}
 
 abbrev pub slot-number : ℕ → Slot
 slot-number n = record { 0 = n }
@@ -31,3 +32,18 @@ held b = map job-in (used b)
 -- how many of the jobs on the board were admitted in its slot
 unfoldable pub in-slot : Board → ℕ
 in-slot b = how-many (λ r. eqb (r .admitted) (b .slot .0)) (held b)
+
+-- the places in use whose jobs pass the test
+unfoldable pub passing : Board → (Job → Bool) → List Place
+passing b test = select (λ x. test (job-in x)) (used b)
+
+-- the board in the slot k with only the jobs that pass the test, from the first place on
+unfoldable pub thinned : Board → (slot : ℕ) → (Job → Bool) → Board
+thinned b k test =
+    record {
+      depth = b .depth;
+      slot = slot-number k;
+      highest = b .highest;
+      count = length (passing b test);
+      places = passing b test ++ replicate (places-held - length (passing b test)) blank;
+    }

@@ -15,7 +15,7 @@ use Rattle.board.specs.declared.Board.{Board}
 use Rattle.board.specs.declared.Closed.{Closed}
 use Rattle.board.specs.Limits.{places-held}
 use Rattle.board.specs.Rows.{close-rows}
-use Rattle.board.specs.Close.{close-number, given-up, closed-if, closed}
+use Rattle.board.specs.Close.{bakes, close-number, given-up, closed-with, closed}
 use Rattle.board.specs.Lent.{Lent, LentAfter, entries}
 use Rattle.boundary.specs.declared.entries.Entry.{Entry}
 use Rattle.boundary.specs.declared.entries.Parts.{Parts}
@@ -36,13 +36,13 @@ unfolding closed close-number close-rows places-held
 closed-alike b lent = rw long-enough refl
 
 -- how many jobs an answer gives up, by its refusal
-all-expired : (n : ℕ) (b : Board) → closed-if n b .refusal ≡ 0 → closed-if n b .expired ≡ length (given-up b)
-unfolding closed-if
+all-expired : (n : ℕ) (b : Board) → closed-with n b (bakes b) .refusal ≡ 0 → closed-with n b (bakes b) .expired ≡ length (given-up b)
+unfolding closed-with
 all-expired zero b e = refl
 all-expired (suc n) b e = absurd (omega (arith, e))
 
-none-expired : (n k : ℕ) (b : Board) → closed-if n b .refusal ≡ suc k → closed-if n b .expired ≡ 0
-unfolding closed-if
+none-expired : (n k : ℕ) (b : Board) → closed-with n b (bakes b) .refusal ≡ suc k → closed-with n b (bakes b) .expired ≡ 0
+unfolding closed-with
 none-expired zero k b e = absurd (omega (arith, e))
 none-expired (suc n) k b e = refl
 

@@ -1,19 +1,21 @@
 -- The jobs on the board that admitting or closing hands back.
 use mathlib.Core.Path.{_≡_, ap, _∙_}
+use mathlib.Core.Bool.{Bool}
 use mathlib.Core.List.{[], _∷_, _++_, map, map-append}
-use Prim.Native.Nat.{ℕ, _-_, _<_}
+use mathlib.Core.Option.{Option}
+use Prim.Native.Nat.{ℕ, _+_, _-_, _<_}
 use native.Mathlib.Numerals.{add-one}
 use lib.ListN.{length, replicate}
 use lib.Seq.{take-suc-set, take-append-seam}
 use Rattle.lists.specs.Select.{select}
-use Rattle.rule.specs.Job.{job}
+use Rattle.rule.specs.Job.{Job, job}
 use Rattle.rule.specs.Bake.{stays}
 use Rattle.board.specs.declared.Place.{Place}
 use Rattle.board.specs.declared.Board.{Board}
 use Rattle.board.specs.Limits.{places-held}
-use Rattle.board.specs.Held.{slot-number, job-in, blank, used, held}
+use Rattle.board.specs.Held.{slot-number, job-in, blank, used, held, passing, thinned}
 use Rattle.board.specs.Admit.{last-of, with-job}
-use Rattle.board.specs.Close.{bakes, kept, moved-on}
+use Rattle.board.specs.Close.{moved-on-with}
 use Rattle.lists.proofs.Parts.{select-map}
 
 -- the place of a new job
@@ -28,8 +30,11 @@ pub held-with-job : (b : Board) (t w g : ℕ) → b .count < length (b .places) 
 unfolding held job-in job last-of
 held-with-job b t w g h = ap (map job-in) (used-with-job b t w g h) ∙ map-append job-in (used b) (new-place b t w g ∷ [])
 
-pub held-moved-on : (b : Board) → held (moved-on b) ≡ select (stays (b .slot .0) (bakes b)) (held b)
-unfolding held used moved-on kept
-held-moved-on b =
-    ap (map job-in) (take-append-seam (kept b) (replicate (places-held - length (kept b)) blank))
-    ∙ select-map job-in (stays (b .slot .0) (bakes b)) (used b)
+pub held-thinned : (b : Board) (k : ℕ) (test : Job → Bool) → held (thinned b k test) ≡ select test (held b)
+unfolding held used thinned passing
+held-thinned b k test =
+    ap (map job-in) (take-append-seam (passing b test) (replicate (places-held - length (passing b test)) blank)) ∙ select-map job-in test (used b)
+
+pub held-moved-on : (b : Board) (o : Option Job) → held (moved-on-with b o) ≡ select (stays (b .slot .0) o) (held b)
+unfolding moved-on-with
+held-moved-on b o = held-thinned b (b .slot .0 + 1) (stays (b .slot .0) o)

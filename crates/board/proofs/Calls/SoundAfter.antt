@@ -1,18 +1,26 @@
 -- Admitting and closing keep a board sound, and a refused call hands back the board itself.
 use mathlib.Core.Path.{_≡_, refl, sym, ap, _∙_}
 use mathlib.Core.Bool.{true, not}
-use Prim.Native.Nat.{ℕ, zero, suc}
+use mathlib.Core.Option.{Option}
+use Prim.Native.Nat.{ℕ, zero, suc, _+_}
+use native.Mathlib.Omega.{arith}
+use lib.Dec.{ltb}
+use borrow.Author.Tests.{ltb-true}
+use Rattle.lists.proofs.Tests.{and-left}
+use Rattle.rule.specs.Job.{Job}
+use Rattle.rule.specs.Bake.{is-baked, stays}
 use Rattle.board.specs.declared.Board.{Board}
+use Rattle.board.specs.Limits.{last-slot}
 use Rattle.board.specs.Rows.{first-given, admit-rows, close-rows}
 use Rattle.board.specs.Held.{in-slot}
 use Rattle.board.specs.Sound.{sound}
 use Rattle.board.specs.Admit.{admit-number, with-job, admitted-if, admitted}
-use Rattle.board.specs.Close.{close-number, moved-on, closed-if, closed}
+use Rattle.board.specs.Close.{close-number, moved-on-with, closed-with, bakes, closed}
 use Rattle.board.proofs.Soundness.Apart.{facts}
 use Rattle.board.proofs.Soundness.Together.{all-sound}
 use Rattle.board.proofs.Calls.Rows.{row-skipped, admits, closes}
 use Rattle.board.proofs.Calls.SoundAfterAdmitting.{after-admitting}
-use Rattle.board.proofs.Calls.SoundAfterClosing.{after-closing}
+use Rattle.board.proofs.Calls.SoundAfterThinning.{after-thinning}
 
 -- on a sound board row 2 is never given
 pub admit-number-sound : (b : Board) (t w g : ℕ) → sound b ≡ true
@@ -29,9 +37,17 @@ with-job-sound b t w g s e =
     all-sound (with-job b t w g)
     (after-admitting b t w g (facts b s) (admits (b .slot .0) (b .highest) (in-slot b) (b .depth) t w g (sym (admit-number-sound b t w g s) ∙ e)))
 
-pub moved-on-sound : (b : Board) (lent : ℕ) → sound b ≡ true → close-number b lent ≡ 0 → sound (moved-on b) ≡ true
-moved-on-sound b lent s e =
-    all-sound (moved-on b) (after-closing b (facts b s) (closes (b .slot .0) lent (sym (close-number-sound b lent s) ∙ e) .going))
+pub moved-on-sound : (b : Board) (o : Option Job) → sound b ≡ true → (b .slot .0 ≡ suc last-slot → ⊥) → sound (moved-on-with b o) ≡ true
+unfolding moved-on-with stays
+moved-on-sound b o s going =
+    let f = facts b s in
+    all-sound (moved-on-with b o)
+    (after-thinning b f (b .slot .0 + 1) (stays (b .slot .0) o) (omega arith) (omega (arith, f .to-last, going))
+    (λ r m h. omega (arith, ltb-true (b .slot .0) (r .last) (and-left (ltb (b .slot .0) (r .last)) (not (is-baked o r)) h))))
+
+-- a closing that is not refused
+pub close-going : (b : Board) (lent : ℕ) → sound b ≡ true → close-number b lent ≡ 0 → b .slot .0 ≡ suc last-slot → ⊥
+close-going b lent s e = closes (b .slot .0) lent (sym (close-number-sound b lent s) ∙ e) .going
 
 -- soundness is kept
 pub admitted-sound : (b : Board) (t w g : ℕ) → sound b ≡ true → sound (admitted b t w g .board) ≡ true
@@ -43,11 +59,11 @@ admitted-sound b t w g s = go (admit-number b t w g) refl
     go (suc n) e = s
 
 pub closed-sound : (b : Board) (lent : ℕ) → sound b ≡ true → sound (closed b lent .board) ≡ true
-unfolding closed closed-if
+unfolding closed closed-with
 closed-sound b lent s = go (close-number b lent) refl
   where
-    go : (n : ℕ) → close-number b lent ≡ n → sound (closed-if n b .board) ≡ true
-    go zero e = moved-on-sound b lent s e
+    go : (n : ℕ) → close-number b lent ≡ n → sound (closed-with n b (bakes b) .board) ≡ true
+    go zero e = moved-on-sound b (bakes b) s (close-going b lent s e)
     go (suc n) e = s
 
 -- a refused call hands back its board
@@ -60,9 +76,9 @@ admitted-refused b t w g = go (admit-number b t w g)
     go (suc n) h = refl
 
 pub closed-refused : (b : Board) (lent : ℕ) → (closed b lent .refusal ≡ 0 → ⊥) → closed b lent .board ≡ b
-unfolding closed closed-if
+unfolding closed closed-with
 closed-refused b lent = go (close-number b lent)
   where
-    go : (n : ℕ) → (closed-if n b .refusal ≡ 0 → ⊥) → closed-if n b .board ≡ b
+    go : (n : ℕ) → (closed-with n b (bakes b) .refusal ≡ 0 → ⊥) → closed-with n b (bakes b) .board ≡ b
     go zero h = absurd (h refl)
     go (suc n) h = refl

@@ -16,7 +16,7 @@ use Rattle.board.specs.declared.Tally.{Tally}
 use Rattle.board.specs.Limits.{places-held}
 use Rattle.board.specs.Held.{held}
 use Rattle.board.specs.Sound.{sound}
-use Rattle.board.specs.Close.{bakes, given-up, close-number, closed-if, closed}
+use Rattle.board.specs.Close.{bakes, given-up, close-number, closed-with, closed}
 use Rattle.board.specs.Lent.{Lent, InOrder, LentInOrder}
 use Rattle.board.specs.Tally.{counted}
 use Rattle.board.proofs.Soundness.Apart.{facts}
@@ -67,10 +67,10 @@ few-given-up b s =
 
 -- an answer that is no refusal says how many
 given-up-number : (b : Board) (lent : ℕ) (c : Closed) → c ≡ closed b lent → c .refusal ≡ 0 → c .expired ≡ length (given-up b)
-unfolding closed closed-if
+unfolding closed closed-with
 given-up-number b lent c e h = rw e (go (close-number b lent) (rw e at h))
   where
-    go : (n : ℕ) → closed-if n b .refusal ≡ 0 → closed-if n b .expired ≡ length (given-up b)
+    go : (n : ℕ) → closed-with n b (bakes b) .refusal ≡ 0 → closed-with n b (bakes b) .expired ≡ length (given-up b)
     go zero h = refl
     go (suc n) h = absurd (omega arith)
 

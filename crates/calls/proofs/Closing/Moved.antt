@@ -10,7 +10,7 @@ use Rattle.board.specs.declared.Board.{Board}
 use Rattle.board.specs.Limits.{places-held}
 use Rattle.board.specs.Held.{slot-number, blank, used}
 use Rattle.board.specs.Sound.{sound}
-use Rattle.board.specs.Close.{kept, moved-on}
+use Rattle.board.specs.Close.{bakes, kept, moved-on-with}
 use Rattle.board.proofs.Soundness.Apart.{facts}
 use Rattle.calls.proofs.Closing.Filling.{passed, Counted, Filled, counted-none, filled-none, counted-same, filled-same, counted-more, filled-more}
 use Rattle.calls.proofs.Closing.ByTicket.{staying, inside}
@@ -55,8 +55,8 @@ module _ (b : Board) (i n : ℕ) (places : List Place) (e : i ≡ b .count) (w :
       ∙ ap (λ xs. map (λ (x : Place). x) xs ++ drop (length xs) (replicate places-held blank)) all
       ∙ rw (map-id (kept b), drop-replicate (length (kept b)) places-held blank)
 
-  pub moved-all : record { depth = b .depth; slot = slot-number (b .slot .0 + 1); highest = b .highest; count = n; places = places } ≡ moved-on b
-  unfolding moved-on
+  pub moved-all : record { depth = b .depth; slot = slot-number (b .slot .0 + 1); highest = b .highest; count = n; places = places } ≡ moved-on-with b (bakes b)
+  unfolding moved-on-with thinned
   moved-all =
       λ j.
       record {

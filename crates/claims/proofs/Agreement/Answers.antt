@@ -14,7 +14,7 @@ use Rattle.board.specs.declared.Board.{Board}
 use Rattle.board.specs.Rows.{first-given, admit-rows, close-rows}
 use Rattle.board.specs.Held.{held, in-slot}
 use Rattle.board.specs.Admit.{admit-number, with-job, admitted-if, admitted}
-use Rattle.board.specs.Close.{close-number, bakes, moved-on, closed-if, closed}
+use Rattle.board.specs.Close.{close-number, bakes, moved-on-with, closed-with, closed}
 use Rattle.board.proofs.Soundness.Facts.{admitted-in}
 use Rattle.board.proofs.Calls.SoundAfter.{admit-number-sound, close-number-sound}
 use Rattle.claims.specs.Calls.{admit, close}
@@ -34,7 +34,7 @@ pub record AdmitRefused (d : ℕ) (b : Board) (B : Book) (t w g : ℕ) : Type 0 
 pub record CloseTaken (d : ℕ) (b : Board) (B : Book) (lent : ℕ) : Type 0 where
   pub through : lets-through d B (close lent) ≡ true
   pub number : close-number b lent ≡ 0
-  pub board : closed b lent .board ≡ moved-on b
+  pub board : closed b lent .board ≡ moved-on-with b (bakes b)
   pub ticket : closed b lent .ticket ≡ ticket-of (bakes b)
 
 pub record CloseRefused (d : ℕ) (b : Board) (B : Book) (lent : ℕ) : Type 0 where
@@ -69,7 +69,7 @@ module _ (d s : ℕ) (b : Board) (B : Book) (left : List Job) (a : Agree d s b B
           inr (record { stopped = ap (λ n. eqb n 0) (same-admit t w g ∙ e) ∙ ne-eqb (suc n) 0 (omega arith); board = ap (λ n. admitted-if n b t w g .board) e })
 
   pub close-answers : (lent : ℕ) → CloseTaken d b B lent ⊎ CloseRefused d b B lent
-  unfolding lets-through closed closed-if
+  unfolding lets-through closed closed-with
   close-answers lent = go (close-number b lent) refl
     where
       go : (n : ℕ) → close-number b lent ≡ n → CloseTaken d b B lent ⊎ CloseRefused d b B lent
@@ -77,8 +77,8 @@ module _ (d s : ℕ) (b : Board) (B : Book) (left : List Job) (a : Agree d s b B
           inl (record {
             through = ap (λ n. eqb n 0) (same-close lent ∙ e);
             number = e;
-            board = ap (λ n. closed-if n b .board) e;
-            ticket = ap (λ n. closed-if n b .ticket) e;
+            board = ap (λ n. closed-with n b (bakes b) .board) e;
+            ticket = ap (λ n. closed-with n b (bakes b) .ticket) e;
           })
       go (suc n) e =
-          inr (record { stopped = ap (λ n. eqb n 0) (same-close lent ∙ e) ∙ ne-eqb (suc n) 0 (omega arith); board = ap (λ n. closed-if n b .board) e })
+          inr (record { stopped = ap (λ n. eqb n 0) (same-close lent ∙ e) ∙ ne-eqb (suc n) 0 (omega arith); board = ap (λ n. closed-with n b (bakes b) .board) e })

@@ -17,12 +17,12 @@ use Rattle.books.specs.Book.{Beginning, Event, end-slot, Book, jobs, extend}
 use Rattle.books.specs.Rule.{valid, without}
 use Rattle.books.specs.NoRegretRule.{our-choice}
 use Rattle.board.specs.declared.Board.{Board}
-use Rattle.board.specs.Held.{held}
-use Rattle.board.specs.Close.{close-number, bakes, moved-on}
+use Rattle.board.specs.Held.{held, thinned}
+use Rattle.board.specs.Close.{close-number, bakes, moved-on-with}
 use Rattle.board.proofs.Soundness.Facts.{admitted-in}
 use Rattle.board.proofs.Soundness.Apart.{facts}
 use Rattle.board.proofs.Calls.HeldAfter.{held-moved-on}
-use Rattle.board.proofs.Calls.SoundAfter.{moved-on-sound}
+use Rattle.board.proofs.Calls.SoundAfter.{moved-on-sound, close-going}
 use Rattle.books.proofs.Walks.Extended.{present-ended, highest-ended, jobs-ended}
 use Rattle.rule.proofs.NoRegret.Within.{baked-mem}
 use Rattle.claims.proofs.Agreement.Agree.{Agree}
@@ -82,10 +82,10 @@ module _ (d s : ℕ) (b : Board) (B : Book) (left : List Job) (a : Agree d s b B
       go none e = valid-zero s left
       go (some r) e = valid-named s left r (subst (List·Memᴰ r) (a .on-board) (baked-mem (b .slot .0) (b .depth) (held b) r e))
 
-  new-held : held (moved-on b) ≡ select (in-date (suc s)) (without (ticket-of (bakes b)) left)
+  new-held : held (moved-on-with b (bakes b)) ≡ select (in-date (suc s)) (without (ticket-of (bakes b)) left)
   unfolding without
   new-held =
-      held-moved-on b
+      held-moved-on b (bakes b)
       ∙ ap₂ (λ k A. select (stays k (bakes b)) A) (a .slot) (a .on-board)
       ∙ select-select (stays s (bakes b)) (in-date s) left
       ∙ select-cong (λ x. in-date s x && stays s (bakes b) x) (λ x. not (eqb (x .ticket) (ticket-of (bakes b))) && in-date (suc s) x) left
@@ -96,24 +96,24 @@ module _ (d s : ℕ) (b : Board) (B : Book) (left : List Job) (a : Agree d s b B
   none-yet : (A : List Job) → ((r : Job) → List·Memᴰ r A → r .admitted ≤ s) → admitted-in (suc s) A ≡ 0
   none-yet A h = count-none (λ (q : Job). eqb (q .admitted) (suc s)) A (λ r m. ne-eqb (r .admitted) (suc s) (omega (arith, h r m)))
 
-  none-held : (r : Job) → List·Memᴰ r (held (moved-on b)) → r .admitted ≤ s
+  none-held : (r : Job) → List·Memᴰ r (held (moved-on-with b (bakes b))) → r .admitted ≤ s
   none-held r m =
-      let old = facts b (a .is-sound) .each r (select-mem (stays (b .slot .0) (bakes b)) r (held b) (subst (List·Memᴰ r) (held-moved-on b) m) .0) in
+      let old = facts b (a .is-sound) .each r (select-mem (stays (b .slot .0) (bakes b)) r (held b) (subst (List·Memᴰ r) (held-moved-on b (bakes b)) m) .0) in
       omega (arith, old .begun, a .slot)
 
   none-drawn : (r : Job) → List·Memᴰ r (jobs (extend B end-slot)) → r .admitted ≤ s
   none-drawn r m = a .begun r (subst (List·Memᴰ r) (jobs-ended B) m)
 
-  pub agree-closed : (lent : ℕ) → close-number b lent ≡ 0 → Agree d (suc s) (moved-on b) (extend B end-slot) (without (ticket-of (bakes b)) left)
-  unfolding moved-on without
+  pub agree-closed : (lent : ℕ) → close-number b lent ≡ 0 → Agree d (suc s) (moved-on-with b (bakes b)) (extend B end-slot) (without (ticket-of (bakes b)) left)
+  unfolding moved-on-with thinned without
   agree-closed lent e =
       record {
-        is-sound = moved-on-sound b lent (a .is-sound) e;
+        is-sound = moved-on-sound b (bakes b) (a .is-sound) (close-going b lent (a .is-sound) e);
         depth = a .depth;
         slot = omega (arith, a .slot);
         book-slot = omega (arith, present-ended B, a .book-slot);
         same-highest = highest-ended B ∙ a .same-highest;
-        same-intake = omega (arith, none-yet (jobs (extend B end-slot)) none-drawn, none-yet (held (moved-on b)) none-held);
+        same-intake = omega (arith, none-yet (jobs (extend B end-slot)) none-drawn, none-yet (held (moved-on-with b (bakes b))) none-held);
         begun = λ r m. omega (arith, none-drawn r m);
         on-board = new-held;
         ticketed = λ r m. a .ticketed r (select-mem (λ x. not (eqb (x .ticket) (ticket-of (bakes b)))) r left m .0);

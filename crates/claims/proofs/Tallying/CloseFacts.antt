@@ -15,15 +15,14 @@ use Rattle.rule.specs.Job.{Job}
 use Rattle.rule.specs.Bake.{is-baked, expires, ticket-of, grade-of}
 use Rattle.board.specs.declared.Board.{Board}
 use Rattle.board.specs.Limits.{most-in-slot, last-slot}
-use Rattle.board.specs.Held.{held, in-slot}
+use Rattle.board.specs.Held.{held, in-slot, thinned}
 use Rattle.board.specs.Sound.{sound}
-use Rattle.board.specs.Close.{close-number, bakes, given-up, moved-on, closed-if, closed}
+use Rattle.board.specs.Close.{close-number, given-up-with, bakes, given-up, moved-on-with, closed-with, closed}
 use Rattle.lists.proofs.Spread.{sharing}
 use Rattle.board.proofs.Soundness.Facts.{SoundFacts}
 use Rattle.board.proofs.Soundness.Apart.{facts}
 use Rattle.board.proofs.Tallies.CountAt.{Cell}
-use Rattle.board.proofs.Calls.Rows.{closes}
-use Rattle.board.proofs.Calls.SoundAfter.{close-number-sound, moved-on-sound}
+use Rattle.board.proofs.Calls.SoundAfter.{moved-on-sound, close-going}
 use Rattle.claims.specs.Calls.{close, board-after}
 use Rattle.claims.specs.Balance.{Noted, noted, on-board}
 use Rattle.claims.proofs.Tallying.FedCounts.{times}
@@ -78,7 +77,7 @@ module _ (b : Board) (s : sound b ≡ true) where
   unfolding events
   both k g = count-append (λ (e : Noted). eqb (e .kind) k && eqb (e .grade) g) (events-of (bakes b)) (map expired (given-up b))
 
-  in-balance : (g : ℕ) → times 0 g events + on-board g b ≡ times 1 g events + times 2 g events + on-board g (moved-on b)
+  in-balance : (g : ℕ) → times 0 g events + on-board g b ≡ times 1 g events + times 2 g events + on-board g (moved-on-with b (bakes b))
   in-balance g =
       let t = baked-times g (bakes b) refl in
       let u = expired-times g in
@@ -87,13 +86,13 @@ module _ (b : Board) (s : sound b ≡ true) where
   none-admitted : (g : ℕ) → times 0 g events ≡ 0
   none-admitted g = omega (arith, both 0 g, baked-times g (bakes b) refl .0, expired-times g .0)
 
-  less : (b .slot .0 ≡ suc last-slot → ⊥) → still (moved-on b) ≤ still b
-  unfolding still moved-on last-slot most-in-slot in-slot
+  less : (b .slot .0 ≡ suc last-slot → ⊥) → still (moved-on-with b (bakes b)) ≤ still b
+  unfolding still moved-on-with thinned last-slot most-in-slot in-slot
   less going =
       omega (arith, known .to-last, sharing (λ (r : Job). r .admitted) (held b) most-in-slot (known .intake) (b .slot .0))
 
   cells : (e : Noted) → List·Memᴰ e events → Cell (e .kind) (e .grade)
-  unfolding events events-of given-up
+  unfolding events events-of given-up given-up-with
   cells e m = go (List·Memᴰ·append-cases (events-of (bakes b)) m)
     where
       of-job : (k : ℕ) (r : Job) → k ≤ 2 → List·Memᴰ r (held b) → e ≡ record { kind = k; grade = r .grade } → Cell (e .kind) (e .grade)
@@ -109,23 +108,23 @@ module _ (b : Board) (s : sound b ≡ true) where
           let r = Memᴰ·of-map expired (given-up b) i in
           of-job 2 (r .0) (omega arith) (select-mem (expires (b .slot .0) (bakes b)) (r .0) (held b) (r .1) .0) (sym (r .2))
 
-  taken : (lent : ℕ) → close-number b lent ≡ 0 → Leads b events (moved-on b)
+  taken : (lent : ℕ) → close-number b lent ≡ 0 → Leads b events (moved-on-with b (bakes b))
   taken lent e =
       record {
-        is-sound = moved-on-sound b lent s e;
+        is-sound = moved-on-sound b (bakes b) s (close-going b lent s e);
         cells = cells;
         balance = in-balance;
-        intake = λ g. omega (arith, none-admitted g, less (closes (b .slot .0) lent (sym (close-number-sound b lent s) ∙ e) .going));
+        intake = λ g. omega (arith, none-admitted g, less (close-going b lent s e));
       }
 
 pub close-leads : (b : Board) (lent : ℕ) → sound b ≡ true → Leads b (noted b (close lent)) (board-after b (close lent))
-unfolding noted board-after closed closed-if events
+unfolding noted board-after closed closed-with events
 close-leads b lent s = go (close-number b lent) refl
   where
     noted-if : ℕ → List Noted
     noted-if n =
-        cond (eqb (closed-if n b .refusal) 0) (baked-noted (closed-if n b .ticket) (closed-if n b .grade) ++ map expired (given-up b)) []
+        cond (eqb (closed-with n b (bakes b) .refusal) 0) (baked-noted (closed-with n b (bakes b) .ticket) (closed-with n b (bakes b) .grade) ++ map expired (given-up b)) []
 
-    go : (n : ℕ) → close-number b lent ≡ n → Leads b (noted-if n) (closed-if n b .board)
-    go zero e = subst (λ es. Leads b (es ++ map expired (given-up b)) (moved-on b)) (sym (baked-events b s (bakes b) refl)) (taken b s lent e)
+    go : (n : ℕ) → close-number b lent ≡ n → Leads b (noted-if n) (closed-with n b (bakes b) .board)
+    go zero e = subst (λ es. Leads b (es ++ map expired (given-up b)) (moved-on-with b (bakes b))) (sym (baked-events b s (bakes b) refl)) (taken b s lent e)
     go (suc n) e = subst (λ c. Leads b (cond c (baked-noted 0 0 ++ map expired (given-up b)) []) b) (sym (ne-eqb (suc n) 0 (omega arith))) (leads-nowhere b s)

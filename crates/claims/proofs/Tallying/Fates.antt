@@ -16,7 +16,7 @@ use Rattle.rule.specs.Job.{Job}
 use Rattle.rule.specs.Bake.{is-baked, expires, stays}
 use Rattle.board.specs.declared.Board.{Board}
 use Rattle.board.specs.Held.{held}
-use Rattle.board.specs.Close.{bakes, given-up, moved-on}
+use Rattle.board.specs.Close.{given-up-with, bakes, given-up, moved-on-with}
 use Rattle.lists.proofs.Once.{count-once}
 use Rattle.board.proofs.Soundness.Facts.{SoundFacts}
 use Rattle.board.proofs.Calls.HeldAfter.{held-moved-on}
@@ -65,15 +65,15 @@ module _ (b : Board) (known : SoundFacts b) where
 
     -- those given up, and those that stay
     given-up-count : how-many of-grade (given-up b) ≡ how-many (λ (r : Job). expires (b .slot .0) (bakes b) r && of-grade r) (held b)
-    unfolding given-up
+    unfolding given-up given-up-with
     given-up-count = count-in-selection of-grade (expires (b .slot .0) (bakes b)) (held b)
 
-    staying-count : on-board g (moved-on b) ≡ how-many (λ (r : Job). stays (b .slot .0) (bakes b) r && of-grade r) (held b)
+    staying-count : on-board g (moved-on-with b (bakes b)) ≡ how-many (λ (r : Job). stays (b .slot .0) (bakes b) r && of-grade r) (held b)
     unfolding on-board of-grade
-    staying-count = ap (how-many of-grade) (held-moved-on b) ∙ count-in-selection of-grade (stays (b .slot .0) (bakes b)) (held b)
+    staying-count = ap (how-many of-grade) (held-moved-on b (bakes b)) ∙ count-in-selection of-grade (stays (b .slot .0) (bakes b)) (held b)
 
     pub fates : on-board g b
-        ≡ how-many (λ (r : Job). is-baked (bakes b) r && eqb (r .grade) g) (held b) + how-many (λ (r : Job). eqb (r .grade) g) (given-up b) + on-board g (moved-on b)
+        ≡ how-many (λ (r : Job). is-baked (bakes b) r && eqb (r .grade) g) (held b) + how-many (λ (r : Job). eqb (r .grade) g) (given-up b) + on-board g (moved-on-with b (bakes b))
     unfolding on-board of-grade expires stays
     fates =
         omega (

@@ -15,7 +15,7 @@ use Rattle.board.specs.Held.{in-slot}
 use Rattle.board.specs.Sound.{sound}
 use Rattle.board.specs.Open.{opened-if, opened}
 use Rattle.board.specs.Admit.{admit-number, admitted-if, admitted}
-use Rattle.board.specs.Close.{close-number, closed-if, closed}
+use Rattle.board.specs.Close.{bakes, close-number, closed-with, closed}
 use Rattle.board.proofs.Calls.Rows.{row-passed}
 use Rattle.board.proofs.Calls.SoundAfter.{admit-number-sound, close-number-sound}
 
@@ -55,10 +55,10 @@ admitted-number b t w g = go (admit-number b t w g)
     go (suc n) = refl
 
 closed-number : (b : Board) (lent : ℕ) → closed b lent .refusal ≡ close-number b lent
-unfolding closed closed-if
+unfolding closed closed-with
 closed-number b lent = go (close-number b lent)
   where
-    go : (n : ℕ) → closed-if n b .refusal ≡ n
+    go : (n : ℕ) → closed-with n b (bakes b) .refusal ≡ n
     go zero = refl
     go (suc n) = refl
 
