@@ -1,5 +1,5 @@
 -- The job that a slot bakes, the jobs that expire with it, and those that are left.
-use mathlib.Core.Bool.{Bool, true, false, cond, not, _&&_, _||_}
+use mathlib.Core.Bool.{Bool, cond, not, _&&_, _||_}
 use mathlib.Core.List.{List, [], _∷_}
 use mathlib.Core.Option.{Option, none, some}
 use Prim.Native.Nat.{ℕ}
@@ -24,19 +24,6 @@ soonest (r ∷ A) = some (soonest-of r (soonest A))
 unfoldable pub baked : (now d : ℕ) → List Job → Option Job
 baked now d A = soonest (no-regret now d A)
 
--- a job is the one baked: a ticket names one job
-unfoldable pub is-baked : Option Job → Job → Bool
-is-baked none r = false
-is-baked (some q) r = eqb (r .ticket) (q .ticket)
-
--- 'gives up every other rack whose last slot is the present one': the jobs that expire
-unfoldable pub expires : ℕ → Option Job → Job → Bool
-expires now o r = eqb (r .last) now && not (is-baked o r)
-
--- the jobs that stay for the next slot
-unfoldable pub stays : ℕ → Option Job → Job → Bool
-stays now o r = ltb now (r .last) && not (is-baked o r)
-
 -- ''Empty' is the answer only for a board with no racks; its ticket and grade are 0'
 unfoldable pub ticket-of : Option Job → ℕ
 ticket-of none = 0
@@ -45,3 +32,15 @@ ticket-of (some r) = r .ticket
 unfoldable pub grade-of : Option Job → ℕ
 grade-of none = 0
 grade-of (some r) = r .grade
+
+-- a job is the one baked: a ticket names one job, and 0 none
+unfoldable pub is-baked : Option Job → Job → Bool
+is-baked o r = eqb (r .ticket) (ticket-of o)
+
+-- 'gives up every other rack whose last slot is the present one': the jobs that expire
+unfoldable pub expires : ℕ → Option Job → Job → Bool
+expires now o r = eqb (r .last) now && not (is-baked o r)
+
+-- the jobs that stay for the next slot
+unfoldable pub stays : ℕ → Option Job → Job → Bool
+stays now o r = ltb now (r .last) && not (is-baked o r)

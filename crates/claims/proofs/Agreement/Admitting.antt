@@ -75,5 +75,4 @@ module _ (d s : ℕ) (b : Board) (B : Book) (left : List Job) (a : Agree d s b B
         same-intake = counts;
         begun = λ r m. of-either (λ q. q .admitted ≤ s) (jobs B) (a .begun) (omega arith) r (subst (List·Memᴰ r) new-jobs m);
         on-board = new-held ∙ ap₂ _++_ (a .on-board) (sym dated) ∙ sym (select-append (in-date s) left (new-job ∷ []));
-        ticketed = of-either (λ q. 1 ≤ q .ticket) left (a .ticketed) (omega (arith, rows .above));
       }

@@ -23,4 +23,3 @@ pub record Agree (d s : ℕ) (b : Board) (B : Book) (left : List Job) : Type 0 w
   pub begun : (r : Job) → List·Memᴰ r (jobs B) → r .admitted ≤ s
   -- the jobs on the board are those left that are in date
   pub on-board : held b ≡ select (in-date s) left
-  pub ticketed : (r : Job) → List·Memᴰ r left → 1 ≤ r .ticket

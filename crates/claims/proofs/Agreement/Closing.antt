@@ -44,12 +44,6 @@ valid-named s left r m =
     (mem-has (λ q. eqb (q .ticket) (r .ticket) && in-date s q) (k .0)
     (and-intro (eqb (r .ticket) (r .ticket)) (in-date s r) (eq-eqb (r .ticket) (r .ticket) refl) (k .1)))
 
--- a job is the one baked where its ticket is named
-baked-named : (o : Option Job) (x : Job) → 1 ≤ x .ticket → is-baked o x ≡ eqb (x .ticket) (ticket-of o)
-unfolding is-baked ticket-of
-baked-named none x h = sym (ne-eqb (x .ticket) 0 (omega arith))
-baked-named (some q) x h = refl
-
 turned : (a b c : Bool) → (b ≡ true → a ≡ true) → (a && (b && not c)) ≡ (not c && b)
 turned true true true f = refl
 turned true true false f = refl
@@ -61,11 +55,10 @@ turned false true true f = refl
 turned false true false f = f refl
 
 -- staying on the board is being in date in the next slot and not baked
-staying : (s : ℕ) (o : Option Job) (x : Job) → 1 ≤ x .ticket → (in-date s x && stays s o x) ≡ (not (eqb (x .ticket) (ticket-of o)) && in-date (suc s) x)
-unfolding in-date stays
-staying s o x h =
-    ap (λ c. leb s (x .last) && (ltb s (x .last) && not c)) (baked-named o x h)
-    ∙ turned (leb s (x .last)) (ltb s (x .last)) (eqb (x .ticket) (ticket-of o)) (λ e. le-leb s (x .last) (omega (arith, ltb-true s (x .last) e)))
+staying : (s : ℕ) (o : Option Job) (x : Job) → (in-date s x && stays s o x) ≡ (not (eqb (x .ticket) (ticket-of o)) && in-date (suc s) x)
+unfolding in-date stays is-baked
+staying s o x =
+    turned (leb s (x .last)) (ltb s (x .last)) (eqb (x .ticket) (ticket-of o)) (λ e. le-leb s (x .last) (omega (arith, ltb-true s (x .last) e)))
 
 module _ (d s : ℕ) (b : Board) (B : Book) (left : List Job) (a : Agree d s b B left) where
   -- our rule's choice is the ticket of the board's answer
@@ -89,7 +82,7 @@ module _ (d s : ℕ) (b : Board) (B : Book) (left : List Job) (a : Agree d s b B
       ∙ ap₂ (λ k A. select (stays k (bakes b)) A) (a .slot) (a .on-board)
       ∙ select-select (stays s (bakes b)) (in-date s) left
       ∙ select-cong (λ x. in-date s x && stays s (bakes b) x) (λ x. not (eqb (x .ticket) (ticket-of (bakes b))) && in-date (suc s) x) left
-      (λ x m. staying s (bakes b) x (a .ticketed x m))
+      (λ x m. staying s (bakes b) x)
       ∙ sym (select-select (in-date (suc s)) (λ x. not (eqb (x .ticket) (ticket-of (bakes b)))) left)
 
   -- none is of the next slot yet
@@ -116,5 +109,4 @@ module _ (d s : ℕ) (b : Board) (B : Book) (left : List Job) (a : Agree d s b B
         same-intake = omega (arith, none-yet (jobs (extend B end-slot)) none-drawn, none-yet (held (moved-on-with b (bakes b))) none-held);
         begun = λ r m. omega (arith, none-drawn r m);
         on-board = new-held;
-        ticketed = λ r m. a .ticketed r (select-mem (λ x. not (eqb (x .ticket) (ticket-of (bakes b)))) r left m .0);
       }

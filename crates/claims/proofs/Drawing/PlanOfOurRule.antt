@@ -43,7 +43,6 @@ module _ (b : Board) (s : sound b ≡ true) (empty : b .count ≡ 0) where
         same-intake = ap (admitted-in (b .slot .0)) (sym (no-jobs b empty));
         begun = λ r m. absurd (List·Memᴰ·not-nil m);
         on-board = no-jobs b empty;
-        ticketed = λ r m. absurd (List·Memᴰ·not-nil m);
       }
 
   -- the tickets named in the answers

@@ -13,7 +13,7 @@ use Rattle.lists.proofs.Tests.{cmp}
 use Rattle.lists.proofs.Rising.{rise-above}
 use Rattle.lists.proofs.Counting.{count-none, count-split, count-in-selection}
 use Rattle.rule.specs.Job.{Job}
-use Rattle.rule.specs.Bake.{is-baked, expires, stays}
+use Rattle.rule.specs.Bake.{is-baked, expires, stays, ticket-of}
 use Rattle.board.specs.declared.Board.{Board}
 use Rattle.board.specs.Held.{held}
 use Rattle.board.specs.Close.{given-up-with, bakes, given-up, moved-on-with}
@@ -54,11 +54,13 @@ module _ (b : Board) (known : SoundFacts b) where
 
     -- one job is baked, or none
     pub none-baked : bakes b ≡ none → how-many (λ (r : Job). is-baked (bakes b) r && eqb (r .grade) g) (held b) ≡ 0
-    unfolding is-baked
-    none-baked e = count-none (λ (r : Job). is-baked (bakes b) r && eqb (r .grade) g) (held b) (λ r m. ap (λ o. is-baked o r && eqb (r .grade) g) e)
+    unfolding is-baked ticket-of
+    none-baked e =
+        count-none (λ (r : Job). is-baked (bakes b) r && eqb (r .grade) g) (held b)
+        (λ r m. ap (λ o. is-baked o r && eqb (r .grade) g) e ∙ ap (λ c. c && eqb (r .grade) g) (ne-eqb (r .ticket) 0 (omega (arith, ticket-above r m))))
 
     pub one-baked : (q : Job) → bakes b ≡ some q → how-many (λ (r : Job). is-baked (bakes b) r && eqb (r .grade) g) (held b) ≡ one-if (eqb (q .grade) g)
-    unfolding is-baked of-grade
+    unfolding is-baked ticket-of of-grade
     one-baked q e =
         ap (λ o. how-many (λ (r : Job). is-baked o r && eqb (r .grade) g) (held b)) e
         ∙ count-once (λ (r : Job). r .ticket) of-grade 0 (known .tickets-rise) (baked-held q e)
