@@ -1,3 +1,4 @@
+pub mod Known
 pub mod Soundness
 pub mod Calls
 pub mod Tallies

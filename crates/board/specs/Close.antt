@@ -17,24 +17,25 @@ use Rattle.board.specs.Sound.{sound}
 unfoldable pub close-number : Board → (lent : ℕ) → ℕ
 close-number b lent = first-given (2 if not (sound b) ∷ close-rows (b .slot .0) lent)
 
--- A slot closed with the job o, or with none. 'gives up every other rack whose last slot is the present one': these jobs, each once. Their order in the
--- lent list is left open.
-unfoldable pub given-up-with : Board → Option Job → List Job
-given-up-with b o = select (expires (b .slot .0) o) (held b)
+-- A slot closed with the ticket t baked, or none, which is ticket 0. 'gives up every other rack whose last slot is the present one': these jobs, each
+-- once. Their order in the lent list is left open.
+unfoldable pub given-up-with : Board → (t : ℕ) → List Job
+given-up-with b t = select (expires (b .slot .0) t) (held b)
 
 -- 'and moves to the next slot', with the jobs that stay
-unfoldable pub moved-on-with : Board → Option Job → Board
-moved-on-with b o = thinned b (b .slot .0 + 1) (stays (b .slot .0) o)
+unfoldable pub moved-on-with : Board → (t : ℕ) → Board
+moved-on-with b t = thinned b (b .slot .0 + 1) (stays (b .slot .0) t)
 
--- the answer, by the number of the refusal; 'a refusal hands back the board [..] unchanged; whatever else the answer holds besides the number is then 0'
-unfoldable pub closed-with : ℕ → Board → Option Job → Closed
+-- the answer with the job o baked, by the number of the refusal; 'a refusal hands back the board [..] unchanged; whatever else the answer holds besides
+-- the number is then 0'
+unfoldable pub closed-with : (number : ℕ) → Board → Option Job → Closed
 closed-with zero b o =
     record {
       refusal = 0;
       ticket = ticket-of o;
       grade = grade-of o;
-      expired = length (given-up-with b o);
-      board = moved-on-with b o;
+      expired = length (given-up-with b (ticket-of o));
+      board = moved-on-with b (ticket-of o);
     }
 closed-with (suc n) b o = record { refusal = suc n; ticket = 0; grade = 0; expired = 0; board = b }
 
@@ -43,7 +44,7 @@ unfoldable pub bakes : Board → Option Job
 bakes b = baked (b .slot .0) (b .depth) (held b)
 
 unfoldable pub given-up : Board → List Job
-given-up b = given-up-with b (bakes b)
+given-up b = given-up-with b (ticket-of (bakes b))
 
 unfoldable pub closed : Board → (lent : ℕ) → Closed
 closed b lent = closed-with (close-number b lent) b (bakes b)

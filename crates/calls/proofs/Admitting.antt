@@ -1,3 +1,3 @@
 pub mod InSlot
-pub mod LetThrough
 pub mod ByNumber
+pub mod OnSound

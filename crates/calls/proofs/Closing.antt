@@ -1,5 +1,5 @@
 pub mod Filling
-pub mod ByTicket
 pub mod Written
 pub mod Moved
 pub mod Answer
+pub mod OnSound

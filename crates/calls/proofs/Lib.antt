@@ -1,6 +1,3 @@
-pub mod Searching
+pub mod Limits
 pub mod Admitting
 pub mod Closing
-pub mod Answering
-pub mod Feeding
-pub mod Running

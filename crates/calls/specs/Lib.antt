@@ -1,3 +1,1 @@
-pub mod Days
-pub mod Machines
-pub mod Runs
+pub mod InLimits

@@ -1,23 +1,23 @@
 // Admitting a job: 01's rows 2 to 7 in order, then the job in the first free place.
 ghost use mathlib.Core.Path.{_≡_};
-ghost use mathlib.Core.Bool.{true, _&&_};
+ghost use mathlib.Core.Bool.{_&&_};
 ghost use Prim.Native.Nat.{_≤_, _^_};
 ghost use lib.Dec.{leb};
-ghost use Rattle.board.specs.Limits.{longest-laxity, deepest};
+ghost use Rattle.board.specs.Limits.{longest-laxity, places-held, deepest};
 ghost use Rattle.board.specs.Rows.{first-given, admit-rows};
-ghost use Rattle.board.specs.Held.{slot-number, in-slot};
-ghost use Rattle.board.specs.Sound.{sound};
-ghost use Rattle.board.specs.Admit.{admit-number, admitted-if, admitted};
+ghost use Rattle.board.specs.Held.{slot-number};
+ghost use Rattle.board.specs.Admit.{admitted-if, admitted};
+ghost use Rattle.calls.specs.InLimits.{in-slot-before, LetIn, admitted-in-limits};
 use board::Admitted;
 use board::Board;
 use board::Laxity;
 use board::Place;
 use board::Slot;
 
-// How many of a sound board's jobs were admitted in its slot. Admitted slots never fall along the board, so these jobs stand at its end.
+// How many jobs at the board's end were admitted in its slot. On a sound board no others were: admitted slots never fall along it.
 fn in_slot(b: Board) -> usize
-    requires { ⌜ sound b ≡ true ⌝ }
-    ensures { λ r. ⌜ r ≡ in-slot b ⌝ }
+    requires { ⌜ b .count ≤ places-held ⌝ }
+    ensures { λ r. ⌜ r ≡ in-slot-before b (b .count) ⌝ }
 {
     let mut at = b.count;
     while 0 < at {
@@ -79,8 +79,7 @@ fn first_row(
 
 // What admitting answers where no row fails: the job's last slot, and the board with the job in the first free place.
 fn place_job(mut b: Board, ticket: u32, laxity: Laxity, grade: u32) -> Admitted
-    requires { ⌜ sound b ≡ true ⌝ }
-    requires { ⌜ admit-number b ticket (laxity .0) grade ≡ 0 ⌝ }
+    requires { ⌜ LetIn b (laxity .0) grade ⌝ }
     ensures { λ r. ⌜ r ≡ admitted-if 0 b ticket (laxity .0) grade ⌝ }
 {
     let last = Slot(b.slot.0 + laxity.0 - 1);
@@ -111,15 +110,20 @@ fn refused(refusal: u8, b: Board) -> Admitted
     }
 }
 
-// Admits a job on a sound board.
-pub(crate) fn admit_sound(b: Board, ticket: u32, laxity: Laxity, grade: u32) -> Admitted
-    requires { ⌜ sound b ≡ true ⌝ }
-    ensures { λ r. ⌜ r ≡ admitted b ticket (laxity .0) grade ⌝ }
+// Admits a job on a board of which only the limits are looked at. On a sound board that is 01's admitting.
+pub fn admit_in_limits(b: Board, ticket: u32, laxity: Laxity, grade: u32) -> Admitted
+    ensures { λ r. ⌜ r ≡ admitted-in-limits b ticket (laxity .0) grade ⌝ }
 {
+    if !soundness::in_limits(b.depth, b.slot, b.count) {
+        return refused(2, b);
+    }
     let taken = in_slot(b);
     let row = first_row(b.slot, b.highest, taken, b.depth, ticket, laxity, grade);
     if row != 0 {
         return refused(row, b);
+    }
+    if Board::PLACES <= b.count {
+        return refused(2, b);
     }
     place_job(b, ticket, laxity, grade)
 }
@@ -129,7 +133,7 @@ pub fn admit(b: Board, ticket: u32, laxity: Laxity, grade: u32) -> Admitted
     ensures { λ r. ⌜ r ≡ admitted b ticket (laxity .0) grade ⌝ }
 {
     if soundness::is_sound(b) {
-        return admit_sound(b, ticket, laxity, grade);
+        return admit_in_limits(b, ticket, laxity, grade);
     }
     refused(2, b)
 }

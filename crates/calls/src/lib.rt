@@ -1,7 +1,3 @@
-// The calls on a board: admitting and closing. Public calls refuse; inner ones, for callers that have shown the board sound, skip that check.
+// The calls on a board: admitting and closing. Each refuses what 01 says, over a call that looks at the board's limits alone.
 pub mod admit;
 pub mod close;
-pub mod feed;
-pub mod run;
-mod search;
-pub mod session;

@@ -1,1 +1,4 @@
+pub mod Days
+pub mod Machines
+pub mod Runs
 pub mod Status

@@ -1,10 +1,10 @@
 -- The program's exit status.
 use mathlib.Core.Path.{_≡_}
 use Prim.Native.Nat.{ℕ}
-use Rattle.calls.specs.declared.run.Ended.{Ended}
-use Rattle.calls.specs.declared.run.Ended.the-variants.{Whole, ReadFailed, WriteFailed, TooLong}
-use Rattle.calls.specs.declared.run.Outcome.{Outcome}
-use Rattle.calls.specs.Runs.{Ran}
+use Rattle.program.specs.declared.run.Ended.{Ended}
+use Rattle.program.specs.declared.run.Ended.the-variants.{Whole, ReadFailed, WriteFailed, TooLong}
+use Rattle.program.specs.declared.run.Outcome.{Outcome}
+use Rattle.program.specs.Runs.{Ran}
 
 -- 0 where the end of input was read and the whole output was written, whatever lines were refused
 unfoldable pub status : Ended → ℕ

@@ -13,7 +13,7 @@ use Rattle.rule.specs.Job.{Job, job, laxity, in-date}
 use Rattle.rule.specs.Grade.{bits, starts, graded, starting}
 use Rattle.rule.specs.Tight.{laxities, excess, smallest, tight-laxity, tight}
 use Rattle.rule.specs.Descent.{next-bit, descend, no-regret-after, no-regret}
-use Rattle.rule.specs.Bake.{sooner, soonest-of, soonest, baked, is-baked, expires, stays, ticket-of}
+use Rattle.rule.specs.Bake.{sooner, soonest-of, soonest, baked, expires, stays, ticket-of}
 
 -- a closing: the ticket baked (0 for none) and the tickets given up
 record Closing : Type 0 where
@@ -53,7 +53,7 @@ closings : (now d n : ℕ) → List Job → List Closing
 closings now d zero A = []
 closings now d (suc n) A =
     let o = baked now d A in
-    record { ticket = ticket-of o; gone = tickets (select (expires now o) A) } ∷ closings (suc now) d n (select (stays now o) A)
+    record { ticket = ticket-of o; gone = tickets (select (expires now (ticket-of o)) A) } ∷ closings (suc now) d n (select (stays now (ticket-of o)) A)
 
 -- equal numbers, lists of numbers, closings
 same : List ℕ → List ℕ → Bool
@@ -111,5 +111,5 @@ table =
     ∷ []
 
 pub worked : every right table ≡ true
-unfolding every right table _/_ _gives-up_ numbered tickets ticket-of closings same same-closings holds select has how-many one-if least least-from job laxity in-date bits starts graded starting laxities excess smallest tight-laxity tight next-bit descend no-regret-after no-regret sooner soonest-of soonest baked is-baked expires stays
+unfolding every right table _/_ _gives-up_ numbered tickets ticket-of closings same same-closings holds select has how-many one-if least least-from job laxity in-date bits starts graded starting laxities excess smallest tight-laxity tight next-bit descend no-regret-after no-regret sooner soonest-of soonest baked expires stays
 worked = refl

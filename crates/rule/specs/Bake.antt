@@ -4,7 +4,6 @@ use mathlib.Core.List.{List, [], _∷_}
 use mathlib.Core.Option.{Option, none, some}
 use Prim.Native.Nat.{ℕ}
 use lib.Dec.{leb, ltb, eqb}
-use Rattle.lists.specs.Select.{select}
 use Rattle.rule.specs.Job.{Job}
 use Rattle.rule.specs.Descent.{no-regret}
 
@@ -33,14 +32,10 @@ unfoldable pub grade-of : Option Job → ℕ
 grade-of none = 0
 grade-of (some r) = r .grade
 
--- a job is the one baked: a ticket names one job, and 0 none
-unfoldable pub is-baked : Option Job → Job → Bool
-is-baked o r = eqb (r .ticket) (ticket-of o)
-
--- 'gives up every other rack whose last slot is the present one': the jobs that expire
-unfoldable pub expires : ℕ → Option Job → Job → Bool
-expires now o r = eqb (r .last) now && not (is-baked o r)
+-- 'gives up every other rack whose last slot is the present one': the jobs that expire where the ticket t is baked, or none, which is ticket 0
+unfoldable pub expires : (now t : ℕ) → Job → Bool
+expires now t r = eqb (r .last) now && not (eqb (r .ticket) t)
 
 -- the jobs that stay for the next slot
-unfoldable pub stays : ℕ → Option Job → Job → Bool
-stays now o r = ltb now (r .last) && not (is-baked o r)
+unfoldable pub stays : (now t : ℕ) → Job → Bool
+stays now t r = ltb now (r .last) && not (eqb (r .ticket) t)

@@ -23,7 +23,7 @@ struct Seen {
 }
 
 // The depth, the slot and the count are in their limits.
-fn in_limits(depth: u8, slot: Slot, count: usize) -> bool
+pub fn in_limits(depth: u8, slot: Slot, count: usize) -> bool
     ensures { λ r. ⌜ r ≡ in-limits depth (slot .0) count ⌝ }
 {
     ((depth as u32) <= Board::DEEPEST)

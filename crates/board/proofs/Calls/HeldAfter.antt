@@ -2,7 +2,6 @@
 use mathlib.Core.Path.{_≡_, ap, _∙_}
 use mathlib.Core.Bool.{Bool}
 use mathlib.Core.List.{[], _∷_, _++_, map, map-append}
-use mathlib.Core.Option.{Option}
 use Prim.Native.Nat.{ℕ, _+_, _-_, _<_}
 use native.Mathlib.Numerals.{add-one}
 use lib.ListN.{length, replicate}
@@ -35,6 +34,6 @@ unfolding held used thinned passing
 held-thinned b k test =
     ap (map job-in) (take-append-seam (passing b test) (replicate (places-held - length (passing b test)) blank)) ∙ select-map job-in test (used b)
 
-pub held-moved-on : (b : Board) (o : Option Job) → held (moved-on-with b o) ≡ select (stays (b .slot .0) o) (held b)
+pub held-moved-on : (b : Board) (t : ℕ) → held (moved-on-with b t) ≡ select (stays (b .slot .0) t) (held b)
 unfolding moved-on-with
-held-moved-on b o = held-thinned b (b .slot .0 + 1) (stays (b .slot .0) o)
+held-moved-on b t = held-thinned b (b .slot .0 + 1) (stays (b .slot .0) t)

@@ -1,14 +1,12 @@
 -- Admitting and closing keep a board sound, and a refused call hands back the board itself.
 use mathlib.Core.Path.{_≡_, refl, sym, ap, _∙_}
 use mathlib.Core.Bool.{true, not}
-use mathlib.Core.Option.{Option}
 use Prim.Native.Nat.{ℕ, zero, suc, _+_}
 use native.Mathlib.Omega.{arith}
-use lib.Dec.{ltb}
+use lib.Dec.{ltb, eqb}
 use borrow.Author.Tests.{ltb-true}
 use Rattle.lists.proofs.Tests.{and-left}
-use Rattle.rule.specs.Job.{Job}
-use Rattle.rule.specs.Bake.{is-baked, stays}
+use Rattle.rule.specs.Bake.{stays, ticket-of}
 use Rattle.board.specs.declared.Board.{Board}
 use Rattle.board.specs.Limits.{last-slot}
 use Rattle.board.specs.Rows.{first-given, admit-rows, close-rows}
@@ -37,13 +35,13 @@ with-job-sound b t w g s e =
     all-sound (with-job b t w g)
     (after-admitting b t w g (facts b s) (admits (b .slot .0) (b .highest) (in-slot b) (b .depth) t w g (sym (admit-number-sound b t w g s) ∙ e)))
 
-pub moved-on-sound : (b : Board) (o : Option Job) → sound b ≡ true → (b .slot .0 ≡ suc last-slot → ⊥) → sound (moved-on-with b o) ≡ true
+pub moved-on-sound : (b : Board) (t : ℕ) → sound b ≡ true → (b .slot .0 ≡ suc last-slot → ⊥) → sound (moved-on-with b t) ≡ true
 unfolding moved-on-with stays
-moved-on-sound b o s going =
+moved-on-sound b t s going =
     let f = facts b s in
-    all-sound (moved-on-with b o)
-    (after-thinning b f (b .slot .0 + 1) (stays (b .slot .0) o) (omega arith) (omega (arith, f .to-last, going))
-    (λ r m h. omega (arith, ltb-true (b .slot .0) (r .last) (and-left (ltb (b .slot .0) (r .last)) (not (is-baked o r)) h))))
+    all-sound (moved-on-with b t)
+    (after-thinning b f (b .slot .0 + 1) (stays (b .slot .0) t) (omega arith) (omega (arith, f .to-last, going))
+    (λ r m h. omega (arith, ltb-true (b .slot .0) (r .last) (and-left (ltb (b .slot .0) (r .last)) (not (eqb (r .ticket) t)) h))))
 
 -- a closing that is not refused
 pub close-going : (b : Board) (lent : ℕ) → sound b ≡ true → close-number b lent ≡ 0 → b .slot .0 ≡ suc last-slot → ⊥
@@ -63,7 +61,7 @@ unfolding closed closed-with
 closed-sound b lent s = go (close-number b lent) refl
   where
     go : (n : ℕ) → close-number b lent ≡ n → sound (closed-with n b (bakes b) .board) ≡ true
-    go zero e = moved-on-sound b (bakes b) s (close-going b lent s e)
+    go zero e = moved-on-sound b (ticket-of (bakes b)) s (close-going b lent s e)
     go (suc n) e = s
 
 -- a refused call hands back its board

@@ -1,33 +1,72 @@
--- What admitting answers, by the number of the first row that fails.
+-- What admitting within the limits answers, by the number of the first row that fails.
 use mathlib.Core.Path.{_≡_, refl, sym, ap, _∙_}
-use mathlib.Core.Bool.{true, false}
-use Prim.Native.Nat.{ℕ, zero, suc}
+use mathlib.Core.Bool.{true, false, not}
+use mathlib.Core.List.{[]}
+use Prim.Native.Nat.{ℕ, zero, suc, _≤_, _<_}
+use native.Mathlib.Omega.{arith}
+use lib.Dec.{leb}
+use lib.Pow.{pow-mono}
+use borrow.Author.Tests.{le-leb, lt-leb}
 use Rattle.board.specs.declared.Board.{Board}
 use Rattle.board.specs.declared.Admitted.{Admitted}
+use Rattle.board.specs.Limits.{places-held, deepest}
 use Rattle.board.specs.Rows.{_if_, first-given, admit-rows}
-use Rattle.board.specs.Held.{slot-number, in-slot}
-use Rattle.board.specs.Sound.{sound}
-use Rattle.board.specs.Admit.{admit-number, admitted-if, admitted}
-use Rattle.board.proofs.Calls.SoundAfter.{admit-number-sound}
+use Rattle.board.specs.Held.{slot-number}
+use Rattle.board.specs.Admit.{admitted-if}
+use Rattle.board.proofs.Calls.Rows.{admits}
+use Rattle.soundness.specs.Walk.{in-limits}
+use Rattle.calls.specs.InLimits.{_or-else_, limits-number, in-slot-before, admit-number-in-limits, admitted-in-limits, LetIn}
+use Rattle.calls.proofs.Limits.{Within, within, limits-passed}
+
+-- a number that is not 0 stands
+pub first-stands : (n m : ℕ) → (n ≡ 0 → ⊥) → (n or-else m) ≡ n
+unfolding _or-else_
+first-stands zero m h = absurd (h refl)
+first-stands (suc n) m h = refl
+
+pub answer-none : (b : Board) (t w g : ℕ) (x : Admitted) (n : ℕ) → n ≡ 0 → x ≡ admitted-if 0 b t w g → x ≡ admitted-if n b t w g
+answer-none b t w g x n e h = h ∙ ap (λ m. admitted-if m b t w g) (sym e)
+
+pub answer-refused : (b : Board) (t w g : ℕ) (x : Admitted) (n : ℕ) → (n ≡ 0 → ⊥) → x ≡ record { refusal = n; last = slot-number 0; board = b }
+    → x ≡ admitted-if n b t w g
+unfolding admitted-if
+answer-refused b t w g x zero k h = absurd (k refl)
+answer-refused b t w g x (suc n) k h = h
 
 module _ (b : Board) (t w g : ℕ) where
-  -- on a sound board rows 3 to 7 give the number, with a count of the slot's jobs
-  pub number-sound : sound b ≡ true → (n row : ℕ) → n ≡ in-slot b → row ≡ first-given (admit-rows (b .slot .0) (b .highest) n (b .depth) t w g)
-      → admit-number b t w g ≡ row
-  number-sound s n row e r =
-      admit-number-sound b t w g s ∙ ap (λ k. first-given (admit-rows (b .slot .0) (b .highest) k (b .depth) t w g)) (sym e) ∙ sym r
+  -- rows 3 to 7, as the code finds them
+  abbrev rows : ℕ → ℕ
+  rows n = first-given (admit-rows (b .slot .0) (b .highest) n (b .depth) t w g)
 
-  -- row 2
-  pub number-unsound : sound b ≡ false → admit-number b t w g ≡ 2
-  unfolding admit-number first-given _if_
-  number-unsound e = simp e
+  pub number-out : in-limits (b .depth) (b .slot .0) (b .count) ≡ false → admit-number-in-limits b t w g ≡ 2
+  unfolding admit-number-in-limits limits-number first-given _if_ _or-else_
+  number-out e = simp e
 
-  pub answer-none : (x : Admitted) → admit-number b t w g ≡ 0 → x ≡ admitted-if 0 b t w g → x ≡ admitted b t w g
-  unfolding admitted
-  answer-none x e h = h ∙ ap (λ n. admitted-if n b t w g) (sym e)
+  module _ (i : in-limits (b .depth) (b .slot .0) (b .count) ≡ true) (n row : ℕ) (k : n ≡ in-slot-before b (b .count)) (r : row ≡ rows n) where
+    same : rows (in-slot-before b (b .count)) ≡ row
+    same = ap rows (sym k) ∙ sym r
 
-  pub answer-refused : (x : Admitted) (n : ℕ) → (n ≡ 0 → ⊥) → admit-number b t w g ≡ n → x ≡ record { refusal = n; last = slot-number 0; board = b }
-      → x ≡ admitted b t w g
-  unfolding admitted admitted-if
-  answer-refused x zero k e h = absurd (k refl)
-  answer-refused x (suc n) k e h = h ∙ ap (λ m. admitted-if m b t w g) (sym e)
+    pub number-row : (row ≡ 0 → ⊥) → admit-number-in-limits b t w g ≡ row
+    unfolding admit-number-in-limits _or-else_
+    number-row h =
+        rw (limits-passed b i, same) (first-stands row _ h)
+
+    pub number-full : row ≡ 0 → places-held ≤ b .count → admit-number-in-limits b t w g ≡ 2
+    unfolding admit-number-in-limits _or-else_ first-given _if_
+    number-full e f = rw (limits-passed b i, same, e, le-leb places-held (b .count) f)
+
+    pub number-none : row ≡ 0 → b .count < places-held → admit-number-in-limits b t w g ≡ 0
+    unfolding admit-number-in-limits _or-else_ first-given _if_
+    number-none e f = rw (limits-passed b i, same, e, lt-leb places-held (b .count) f)
+
+    pub let-in : row ≡ 0 → b .count < places-held → LetIn b w g
+    let-in e f =
+        let a = admits (b .slot .0) (b .highest) n (b .depth) t w g (sym r ∙ e) in
+        let l = within b i in
+        record {
+          in-book = l .in-book;
+          some-laxity = a .some-laxity;
+          short = a .short;
+          graded = omega (arith, a .graded, pow-mono (l .shallow));
+          free = f;
+        }

@@ -1,16 +1,17 @@
--- Counting the jobs of a sound board's slot from the board's end.
-use mathlib.Core.Path.{_≡_, refl, ap, _∙_}
-use mathlib.Core.Bool.{true}
+-- On a sound board the jobs of its slot are those counted from the board's end.
+use mathlib.Core.Path.{_≡_, refl, sym, ap, _∙_}
+use mathlib.Core.Bool.{Bool, true, false}
+use mathlib.Core.Logic.{_⊎_, inl, inr}
 use mathlib.Core.List.{List, [], _∷_, map, List·Memᴰ, List·Memᴰ·head, List·Memᴰ·tail}
 use Prim.Native.Nat.{ℕ, zero, suc, _≤_, _<_}
 use native.Mathlib.Omega.{arith}
 use lib.Dec.{leb, eqb}
 use lib.ListN.{length, getD, take, List·getD-map}
 use lib.Seq.{take-all, take-suc, getD-take}
-use borrow.Author.Tests.{leb-true, eq-eqb, ne-eqb}
+use borrow.Author.Tests.{leb-true, eqb-true, eqb-false, eq-eqb, ne-eqb}
 use Rattle.lists.specs.Select.{how-many}
 use Rattle.lists.specs.Rise.{never-fall}
-use Rattle.lists.proofs.Tests.{and-left, and-right}
+use Rattle.lists.proofs.Tests.{test, and-left, and-right, cond-true, cond-false}
 use Rattle.lists.proofs.Counting.{one-if-yes, one-if-no, count-append}
 use Rattle.rule.specs.Job.{Job}
 use Rattle.board.specs.declared.Board.{Board}
@@ -19,6 +20,24 @@ use Rattle.board.specs.Sound.{sound}
 use Rattle.board.proofs.Soundness.Facts.{admitted-in}
 use Rattle.board.proofs.Soundness.Apart.{facts}
 use Rattle.board.proofs.Soundness.HeldCount.{held-count}
+use Rattle.calls.specs.InLimits.{in-slot-before}
+
+before-none : (b : Board) → in-slot-before b 0 ≡ 0
+unfolding in-slot-before
+before-none b = refl
+
+-- one place more, of the slot or of another
+module _ (b : Board) (n : ℕ) where
+  abbrev same : Bool
+  same = eqb (getD (b .places) n blank .admitted .0) (b .slot .0)
+
+  pub before-more : getD (b .places) n blank .admitted .0 ≡ b .slot .0 → in-slot-before b (suc n) ≡ suc (in-slot-before b n)
+  unfolding in-slot-before
+  before-more e = cond-true same _ _ (eq-eqb _ _ e)
+
+  pub before-no-more : (getD (b .places) n blank .admitted .0 ≡ b .slot .0 → ⊥) → in-slot-before b (suc n) ≡ 0
+  unfolding in-slot-before
+  before-no-more e = cond-false same _ _ (ne-eqb _ _ e)
 
 member-at : {A : Type 0} (k : ℕ) (d : A) (l : List A) → k < length l → List·Memᴰ (getD l k d) l
 member-at k d [] h = absurd (omega arith)
@@ -38,10 +57,10 @@ before m (suc k) now d (a ∷ A) h i j =
     (omega (arith, r .0), omega (arith, r .0, r .1, one-if-no (eqb (a .admitted) now) (ne-eqb (a .admitted) now (omega (arith, r .0)))))
 
 -- the jobs of the board's slot in its first n places
-abbrev pub in-first : Board → ℕ → ℕ
+abbrev in-first : Board → ℕ → ℕ
 in-first b n = admitted-in (b .slot .0) (take n (held b))
 
-pub in-none : (b : Board) → in-first b 0 ≡ 0
+in-none : (b : Board) → in-first b 0 ≡ 0
 unfolding how-many
 in-none b = refl
 
@@ -53,12 +72,12 @@ module _ (b : Board) (s : sound b ≡ true) where
   unfolding held used
   job-at k h = List·getD-map job-in (used b) k blank ∙ ap job-in (getD-take (b .count) (b .places) k blank h)
 
-  pub in-all : in-first b (b .count) ≡ in-slot b
+  in-all : in-first b (b .count) ≡ in-slot b
   unfolding in-slot
   in-all = ap (admitted-in (b .slot .0)) (take-all (b .count) (held b) (omega (arith, jobs)))
 
   -- one place more, with a job of the slot
-  pub in-more : (k : ℕ) → k < b .count → getD (b .places) k blank .admitted .0 ≡ b .slot .0 → in-first b (suc k) ≡ suc (in-first b k)
+  in-more : (k : ℕ) → k < b .count → getD (b .places) k blank .admitted .0 ≡ b .slot .0 → in-first b (suc k) ≡ suc (in-first b k)
   unfolding how-many job-in
   in-more k h e =
       let r = getD (held b) k (job-in blank) in
@@ -71,7 +90,7 @@ module _ (b : Board) (s : sound b ≡ true) where
       )
 
   -- a job of another slot, and none of the slot before it
-  pub in-no-more : (k : ℕ) → k < b .count → (getD (b .places) k blank .admitted .0 ≡ b .slot .0 → ⊥) → in-first b (suc k) ≡ 0
+  in-no-more : (k : ℕ) → k < b .count → (getD (b .places) k blank .admitted .0 ≡ b .slot .0 → ⊥) → in-first b (suc k) ≡ 0
   unfolding job-in
   in-no-more k h e =
       let f = facts b s in
@@ -80,3 +99,15 @@ module _ (b : Board) (s : sound b ≡ true) where
       let inside : k < length (held b) = omega (arith, jobs) in
       let begun : r .admitted ≤ b .slot .0 = f .each r (member-at k (job-in blank) (held b) inside) .begun in
       before 1 k (b .slot .0) (job-in blank) (held b) (f .slots-in-order) inside (omega arith) .1
+
+  -- so the count from the end is the count
+  before-is : (n : ℕ) → n ≤ b .count → in-slot-before b n ≡ in-first b n
+  before-is zero h = before-none b ∙ sym (in-none b)
+  before-is (suc n) h = go (test (same b n)) (before-is n (omega arith))
+    where
+      go : (same b n ≡ true) ⊎ (same b n ≡ false) → in-slot-before b n ≡ in-first b n → in-slot-before b (suc n) ≡ in-first b (suc n)
+      go (inl e) i = let q = eqb-true _ _ e in before-more b n q ∙ ap suc i ∙ sym (in-more n (omega arith) q)
+      go (inr e) i = let q = eqb-false _ _ e in before-no-more b n q ∙ sym (in-no-more n (omega arith) q)
+
+  pub in-slot-is : in-slot-before b (b .count) ≡ in-slot b
+  in-slot-is = before-is (b .count) (omega arith) ∙ in-all

@@ -34,7 +34,7 @@ pub record AdmitRefused (d : ℕ) (b : Board) (B : Book) (t w g : ℕ) : Type 0 
 pub record CloseTaken (d : ℕ) (b : Board) (B : Book) (lent : ℕ) : Type 0 where
   pub through : lets-through d B (close lent) ≡ true
   pub number : close-number b lent ≡ 0
-  pub board : closed b lent .board ≡ moved-on-with b (bakes b)
+  pub board : closed b lent .board ≡ moved-on-with b (ticket-of (bakes b))
   pub ticket : closed b lent .ticket ≡ ticket-of (bakes b)
 
 pub record CloseRefused (d : ℕ) (b : Board) (B : Book) (lent : ℕ) : Type 0 where

@@ -12,7 +12,7 @@ use Rattle.lists.proofs.Tests.{and-intro, cond-true}
 use Rattle.lists.proofs.Members.{select-mem, select-cong, select-select, mem-has}
 use Rattle.lists.proofs.Counting.{count-none}
 use Rattle.rule.specs.Job.{Job, in-date}
-use Rattle.rule.specs.Bake.{baked, is-baked, stays, ticket-of}
+use Rattle.rule.specs.Bake.{baked, stays, ticket-of}
 use Rattle.books.specs.Book.{Beginning, Event, end-slot, Book, jobs, extend}
 use Rattle.books.specs.Rule.{valid, without}
 use Rattle.books.specs.NoRegretRule.{our-choice}
@@ -55,10 +55,9 @@ turned false true true f = refl
 turned false true false f = f refl
 
 -- staying on the board is being in date in the next slot and not baked
-staying : (s : ℕ) (o : Option Job) (x : Job) → (in-date s x && stays s o x) ≡ (not (eqb (x .ticket) (ticket-of o)) && in-date (suc s) x)
-unfolding in-date stays is-baked
-staying s o x =
-    turned (leb s (x .last)) (ltb s (x .last)) (eqb (x .ticket) (ticket-of o)) (λ e. le-leb s (x .last) (omega (arith, ltb-true s (x .last) e)))
+staying : (s t : ℕ) (x : Job) → (in-date s x && stays s t x) ≡ (not (eqb (x .ticket) t) && in-date (suc s) x)
+unfolding in-date stays
+staying s t x = turned (leb s (x .last)) (ltb s (x .last)) (eqb (x .ticket) t) (λ e. le-leb s (x .last) (omega (arith, ltb-true s (x .last) e)))
 
 module _ (d s : ℕ) (b : Board) (B : Book) (left : List Job) (a : Agree d s b B left) where
   -- our rule's choice is the ticket of the board's answer
@@ -75,38 +74,38 @@ module _ (d s : ℕ) (b : Board) (B : Book) (left : List Job) (a : Agree d s b B
       go none e = valid-zero s left
       go (some r) e = valid-named s left r (subst (List·Memᴰ r) (a .on-board) (baked-mem (b .slot .0) (b .depth) (held b) r e))
 
-  new-held : held (moved-on-with b (bakes b)) ≡ select (in-date (suc s)) (without (ticket-of (bakes b)) left)
+  new-held : held (moved-on-with b (ticket-of (bakes b))) ≡ select (in-date (suc s)) (without (ticket-of (bakes b)) left)
   unfolding without
   new-held =
-      held-moved-on b (bakes b)
-      ∙ ap₂ (λ k A. select (stays k (bakes b)) A) (a .slot) (a .on-board)
-      ∙ select-select (stays s (bakes b)) (in-date s) left
-      ∙ select-cong (λ x. in-date s x && stays s (bakes b) x) (λ x. not (eqb (x .ticket) (ticket-of (bakes b))) && in-date (suc s) x) left
-      (λ x m. staying s (bakes b) x)
+      held-moved-on b (ticket-of (bakes b))
+      ∙ ap₂ (λ k A. select (stays k (ticket-of (bakes b))) A) (a .slot) (a .on-board)
+      ∙ select-select (stays s (ticket-of (bakes b))) (in-date s) left
+      ∙ select-cong (λ x. in-date s x && stays s (ticket-of (bakes b)) x) (λ x. not (eqb (x .ticket) (ticket-of (bakes b))) && in-date (suc s) x) left
+      (λ x m. staying s (ticket-of (bakes b)) x)
       ∙ sym (select-select (in-date (suc s)) (λ x. not (eqb (x .ticket) (ticket-of (bakes b)))) left)
 
   -- none is of the next slot yet
   none-yet : (A : List Job) → ((r : Job) → List·Memᴰ r A → r .admitted ≤ s) → admitted-in (suc s) A ≡ 0
   none-yet A h = count-none (λ (q : Job). eqb (q .admitted) (suc s)) A (λ r m. ne-eqb (r .admitted) (suc s) (omega (arith, h r m)))
 
-  none-held : (r : Job) → List·Memᴰ r (held (moved-on-with b (bakes b))) → r .admitted ≤ s
+  none-held : (r : Job) → List·Memᴰ r (held (moved-on-with b (ticket-of (bakes b)))) → r .admitted ≤ s
   none-held r m =
-      let old = facts b (a .is-sound) .each r (select-mem (stays (b .slot .0) (bakes b)) r (held b) (subst (List·Memᴰ r) (held-moved-on b (bakes b)) m) .0) in
+      let old = facts b (a .is-sound) .each r (select-mem (stays (b .slot .0) (ticket-of (bakes b))) r (held b) (subst (List·Memᴰ r) (held-moved-on b (ticket-of (bakes b))) m) .0) in
       omega (arith, old .begun, a .slot)
 
   none-drawn : (r : Job) → List·Memᴰ r (jobs (extend B end-slot)) → r .admitted ≤ s
   none-drawn r m = a .begun r (subst (List·Memᴰ r) (jobs-ended B) m)
 
-  pub agree-closed : (lent : ℕ) → close-number b lent ≡ 0 → Agree d (suc s) (moved-on-with b (bakes b)) (extend B end-slot) (without (ticket-of (bakes b)) left)
+  pub agree-closed : (lent : ℕ) → close-number b lent ≡ 0 → Agree d (suc s) (moved-on-with b (ticket-of (bakes b))) (extend B end-slot) (without (ticket-of (bakes b)) left)
   unfolding moved-on-with thinned without
   agree-closed lent e =
       record {
-        is-sound = moved-on-sound b (bakes b) (a .is-sound) (close-going b lent (a .is-sound) e);
+        is-sound = moved-on-sound b (ticket-of (bakes b)) (a .is-sound) (close-going b lent (a .is-sound) e);
         depth = a .depth;
         slot = omega (arith, a .slot);
         book-slot = omega (arith, present-ended B, a .book-slot);
         same-highest = highest-ended B ∙ a .same-highest;
-        same-intake = omega (arith, none-yet (jobs (extend B end-slot)) none-drawn, none-yet (held (moved-on-with b (bakes b))) none-held);
+        same-intake = omega (arith, none-yet (jobs (extend B end-slot)) none-drawn, none-yet (held (moved-on-with b (ticket-of (bakes b)))) none-held);
         begun = λ r m. omega (arith, none-drawn r m);
         on-board = new-held;
       }

@@ -32,7 +32,7 @@ module _ (d : ℕ) (B : Book) (b : Board) (cs : List Call) where
   unfolding named ends-slot board-after
   named-admit-refused t w g h = ap₂ (λ C c. named d C c cs) (book-stopped d B (admit t w g) (h .stopped)) (h .board)
 
-  named-close-taken : (lent : ℕ) → CloseTaken d b B lent → named d B b (close lent ∷ cs) ≡ ticket-of (bakes b) ∷ named d (extend B end-slot) (moved-on-with b (bakes b)) cs
+  named-close-taken : (lent : ℕ) → CloseTaken d b B lent → named d B b (close lent ∷ cs) ≡ ticket-of (bakes b) ∷ named d (extend B end-slot) (moved-on-with b (ticket-of (bakes b))) cs
   unfolding named ends-slot board-after ticket-named event-of
   named-close-taken lent h =
       ap₂ (λ q C. cond q (ticket-named b (close lent) ∷ []) [] ++ named d C (board-after b (close lent)) cs) (h .through) (book-through d B (close lent) (h .through))
@@ -61,7 +61,7 @@ module _ (d s : ℕ) (b : Board) (B : Book) (left : List Job) (a : Agree d s b B
       ∙ refused
       ∙ ap (chosen our-choice d (B .beginning) (B .events) s left) (sym (added-stopped d B (admit t w g) cs (h .stopped)))
 
-  after-close : (lent : ℕ) → (CloseTaken d b B lent → Same d (suc s) (moved-on-with b (bakes b)) (extend B end-slot) (without (ticket-of (bakes b)) left) cs)
+  after-close : (lent : ℕ) → (CloseTaken d b B lent → Same d (suc s) (moved-on-with b (ticket-of (bakes b))) (extend B end-slot) (without (ticket-of (bakes b)) left) cs)
       → CloseTaken d b B lent ⊎ CloseRefused d b B lent → Same d s b B left (close lent ∷ cs)
   unfolding chosen extend event-of
   after-close lent taken (inl h) =
@@ -85,5 +85,5 @@ named-as-chosen d s b B left a (admit t w g ∷ cs) =
     (admit-answers d s b B left a t w g)
 named-as-chosen d s b B left a (close lent ∷ cs) =
     after-close d s b B left a cs (named-as-chosen d s b B left a cs) lent
-    (λ h. named-as-chosen d (suc s) (moved-on-with b (bakes b)) (extend B end-slot) (without (ticket-of (bakes b)) left) (agree-closed d s b B left a lent (h .number)) cs)
+    (λ h. named-as-chosen d (suc s) (moved-on-with b (ticket-of (bakes b))) (extend B end-slot) (without (ticket-of (bakes b)) left) (agree-closed d s b B left a lent (h .number)) cs)
     (close-answers d s b B left a lent)

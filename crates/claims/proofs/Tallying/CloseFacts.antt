@@ -12,7 +12,7 @@ use Rattle.lists.specs.Select.{one-if, how-many}
 use Rattle.lists.proofs.Members.{select-mem}
 use Rattle.lists.proofs.Counting.{count-append, count-map, count-none}
 use Rattle.rule.specs.Job.{Job}
-use Rattle.rule.specs.Bake.{is-baked, expires, ticket-of, grade-of}
+use Rattle.rule.specs.Bake.{expires, ticket-of, grade-of}
 use Rattle.board.specs.declared.Board.{Board}
 use Rattle.board.specs.Limits.{most-in-slot, last-slot}
 use Rattle.board.specs.Held.{held, in-slot, thinned}
@@ -60,7 +60,7 @@ module _ (b : Board) (s : sound b ≡ true) where
   events = events-of (bakes b) ++ map expired (given-up b)
 
   baked-times : (g : ℕ) (o : Option Job) → bakes b ≡ o
-      → (times 0 g (events-of o) ≡ 0) × (times 1 g (events-of o) ≡ how-many (λ (r : Job). is-baked (bakes b) r && eqb (r .grade) g) (held b)) × (times 2 g (events-of o) ≡ 0)
+      → (times 0 g (events-of o) ≡ 0) × (times 1 g (events-of o) ≡ how-many (λ (r : Job). eqb (r .ticket) (ticket-of (bakes b)) && eqb (r .grade) g) (held b)) × (times 2 g (events-of o) ≡ 0)
   unfolding events-of how-many one-if
   baked-times g none e = (refl, sym (none-baked b known g e), refl)
   baked-times g (some q) e = (omega arith, omega (arith, one-baked b known g q e), omega arith)
@@ -77,7 +77,7 @@ module _ (b : Board) (s : sound b ≡ true) where
   unfolding events
   both k g = count-append (λ (e : Noted). eqb (e .kind) k && eqb (e .grade) g) (events-of (bakes b)) (map expired (given-up b))
 
-  in-balance : (g : ℕ) → times 0 g events + on-board g b ≡ times 1 g events + times 2 g events + on-board g (moved-on-with b (bakes b))
+  in-balance : (g : ℕ) → times 0 g events + on-board g b ≡ times 1 g events + times 2 g events + on-board g (moved-on-with b (ticket-of (bakes b)))
   in-balance g =
       let t = baked-times g (bakes b) refl in
       let u = expired-times g in
@@ -86,7 +86,7 @@ module _ (b : Board) (s : sound b ≡ true) where
   none-admitted : (g : ℕ) → times 0 g events ≡ 0
   none-admitted g = omega (arith, both 0 g, baked-times g (bakes b) refl .0, expired-times g .0)
 
-  less : (b .slot .0 ≡ suc last-slot → ⊥) → still (moved-on-with b (bakes b)) ≤ still b
+  less : (b .slot .0 ≡ suc last-slot → ⊥) → still (moved-on-with b (ticket-of (bakes b))) ≤ still b
   unfolding still moved-on-with thinned last-slot most-in-slot in-slot
   less going =
       omega (arith, known .to-last, sharing (λ (r : Job). r .admitted) (held b) most-in-slot (known .intake) (b .slot .0))
@@ -106,12 +106,12 @@ module _ (b : Board) (s : sound b ≡ true) where
       go (inl i) = from (bakes b) refl i
       go (inr i) =
           let r = Memᴰ·of-map expired (given-up b) i in
-          of-job 2 (r .0) (omega arith) (select-mem (expires (b .slot .0) (bakes b)) (r .0) (held b) (r .1) .0) (sym (r .2))
+          of-job 2 (r .0) (omega arith) (select-mem (expires (b .slot .0) (ticket-of (bakes b))) (r .0) (held b) (r .1) .0) (sym (r .2))
 
-  taken : (lent : ℕ) → close-number b lent ≡ 0 → Leads b events (moved-on-with b (bakes b))
+  taken : (lent : ℕ) → close-number b lent ≡ 0 → Leads b events (moved-on-with b (ticket-of (bakes b)))
   taken lent e =
       record {
-        is-sound = moved-on-sound b (bakes b) s (close-going b lent s e);
+        is-sound = moved-on-sound b (ticket-of (bakes b)) s (close-going b lent s e);
         cells = cells;
         balance = in-balance;
         intake = λ g. omega (arith, none-admitted g, less (close-going b lent s e));
@@ -126,5 +126,5 @@ close-leads b lent s = go (close-number b lent) refl
         cond (eqb (closed-with n b (bakes b) .refusal) 0) (baked-noted (closed-with n b (bakes b) .ticket) (closed-with n b (bakes b) .grade) ++ map expired (given-up b)) []
 
     go : (n : ℕ) → close-number b lent ≡ n → Leads b (noted-if n) (closed-with n b (bakes b) .board)
-    go zero e = subst (λ es. Leads b (es ++ map expired (given-up b)) (moved-on-with b (bakes b))) (sym (baked-events b s (bakes b) refl)) (taken b s lent e)
+    go zero e = subst (λ es. Leads b (es ++ map expired (given-up b)) (moved-on-with b (ticket-of (bakes b)))) (sym (baked-events b s (bakes b) refl)) (taken b s lent e)
     go (suc n) e = subst (λ c. Leads b (cond c (baked-noted 0 0 ++ map expired (given-up b)) []) b) (sym (ne-eqb (suc n) 0 (omega arith))) (leads-nowhere b s)

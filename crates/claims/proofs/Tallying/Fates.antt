@@ -13,7 +13,7 @@ use Rattle.lists.proofs.Tests.{cmp}
 use Rattle.lists.proofs.Rising.{rise-above}
 use Rattle.lists.proofs.Counting.{count-none, count-split, count-in-selection}
 use Rattle.rule.specs.Job.{Job}
-use Rattle.rule.specs.Bake.{is-baked, expires, stays, ticket-of}
+use Rattle.rule.specs.Bake.{expires, stays, ticket-of}
 use Rattle.board.specs.declared.Board.{Board}
 use Rattle.board.specs.Held.{held}
 use Rattle.board.specs.Close.{given-up-with, bakes, given-up, moved-on-with}
@@ -53,38 +53,38 @@ module _ (b : Board) (known : SoundFacts b) where
     of-grade r = eqb (r .grade) g
 
     -- one job is baked, or none
-    pub none-baked : bakes b ≡ none → how-many (λ (r : Job). is-baked (bakes b) r && eqb (r .grade) g) (held b) ≡ 0
-    unfolding is-baked ticket-of
+    pub none-baked : bakes b ≡ none → how-many (λ (r : Job). eqb (r .ticket) (ticket-of (bakes b)) && eqb (r .grade) g) (held b) ≡ 0
+    unfolding ticket-of
     none-baked e =
-        count-none (λ (r : Job). is-baked (bakes b) r && eqb (r .grade) g) (held b)
-        (λ r m. ap (λ o. is-baked o r && eqb (r .grade) g) e ∙ ap (λ c. c && eqb (r .grade) g) (ne-eqb (r .ticket) 0 (omega (arith, ticket-above r m))))
+        count-none (λ (r : Job). eqb (r .ticket) (ticket-of (bakes b)) && eqb (r .grade) g) (held b)
+        (λ r m. ap (λ o. eqb (r .ticket) (ticket-of o) && eqb (r .grade) g) e ∙ ap (λ c. c && eqb (r .grade) g) (ne-eqb (r .ticket) 0 (omega (arith, ticket-above r m))))
 
-    pub one-baked : (q : Job) → bakes b ≡ some q → how-many (λ (r : Job). is-baked (bakes b) r && eqb (r .grade) g) (held b) ≡ one-if (eqb (q .grade) g)
-    unfolding is-baked ticket-of of-grade
+    pub one-baked : (q : Job) → bakes b ≡ some q → how-many (λ (r : Job). eqb (r .ticket) (ticket-of (bakes b)) && eqb (r .grade) g) (held b) ≡ one-if (eqb (q .grade) g)
+    unfolding ticket-of of-grade
     one-baked q e =
-        ap (λ o. how-many (λ (r : Job). is-baked o r && eqb (r .grade) g) (held b)) e
+        ap (λ o. how-many (λ (r : Job). eqb (r .ticket) (ticket-of o) && eqb (r .grade) g) (held b)) e
         ∙ count-once (λ (r : Job). r .ticket) of-grade 0 (known .tickets-rise) (baked-held q e)
 
     -- those given up, and those that stay
-    given-up-count : how-many of-grade (given-up b) ≡ how-many (λ (r : Job). expires (b .slot .0) (bakes b) r && of-grade r) (held b)
+    given-up-count : how-many of-grade (given-up b) ≡ how-many (λ (r : Job). expires (b .slot .0) (ticket-of (bakes b)) r && of-grade r) (held b)
     unfolding given-up given-up-with
-    given-up-count = count-in-selection of-grade (expires (b .slot .0) (bakes b)) (held b)
+    given-up-count = count-in-selection of-grade (expires (b .slot .0) (ticket-of (bakes b))) (held b)
 
-    staying-count : on-board g (moved-on-with b (bakes b)) ≡ how-many (λ (r : Job). stays (b .slot .0) (bakes b) r && of-grade r) (held b)
+    staying-count : on-board g (moved-on-with b (ticket-of (bakes b))) ≡ how-many (λ (r : Job). stays (b .slot .0) (ticket-of (bakes b)) r && of-grade r) (held b)
     unfolding on-board of-grade
-    staying-count = ap (how-many of-grade) (held-moved-on b (bakes b)) ∙ count-in-selection of-grade (stays (b .slot .0) (bakes b)) (held b)
+    staying-count = ap (how-many of-grade) (held-moved-on b (ticket-of (bakes b))) ∙ count-in-selection of-grade (stays (b .slot .0) (ticket-of (bakes b))) (held b)
 
     pub fates : on-board g b
-        ≡ how-many (λ (r : Job). is-baked (bakes b) r && eqb (r .grade) g) (held b) + how-many (λ (r : Job). eqb (r .grade) g) (given-up b) + on-board g (moved-on-with b (bakes b))
+        ≡ how-many (λ (r : Job). eqb (r .ticket) (ticket-of (bakes b)) && eqb (r .grade) g) (held b) + how-many (λ (r : Job). eqb (r .grade) g) (given-up b) + on-board g (moved-on-with b (ticket-of (bakes b)))
     unfolding on-board of-grade expires stays
     fates =
         omega (
           arith,
           given-up-count,
           staying-count,
-          count-split (λ (r : Job). is-baked (bakes b) r && of-grade r) (λ (r : Job). not (is-baked (bakes b) r) && of-grade r) of-grade (held b)
-              (λ r m. baked-or-not (is-baked (bakes b) r) (of-grade r)),
-          count-split (λ (r : Job). expires (b .slot .0) (bakes b) r && of-grade r) (λ (r : Job). stays (b .slot .0) (bakes b) r && of-grade r)
-              (λ (r : Job). not (is-baked (bakes b) r) && of-grade r) (held b)
-              (λ r m. now-or-later (b .slot .0) (r .last) (not (is-baked (bakes b) r)) (of-grade r) (known .each r m .in-date)),
+          count-split (λ (r : Job). eqb (r .ticket) (ticket-of (bakes b)) && of-grade r) (λ (r : Job). not (eqb (r .ticket) (ticket-of (bakes b))) && of-grade r) of-grade (held b)
+              (λ r m. baked-or-not (eqb (r .ticket) (ticket-of (bakes b))) (of-grade r)),
+          count-split (λ (r : Job). expires (b .slot .0) (ticket-of (bakes b)) r && of-grade r) (λ (r : Job). stays (b .slot .0) (ticket-of (bakes b)) r && of-grade r)
+              (λ (r : Job). not (eqb (r .ticket) (ticket-of (bakes b))) && of-grade r) (held b)
+              (λ r m. now-or-later (b .slot .0) (r .last) (not (eqb (r .ticket) (ticket-of (bakes b)))) (of-grade r) (known .each r m .in-date)),
         )

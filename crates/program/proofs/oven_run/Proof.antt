@@ -1,9 +1,9 @@
 -- `oven_run`: each end of a run has its status.
 use mathlib.Core.Path.{_≡_, sym, ap}
 use borrow.Author.Needs.{needs}
-use Rattle.calls.specs.declared.run.Ended.{Ended}
-use Rattle.calls.specs.declared.run.Outcome.{Outcome}
-use Rattle.calls.specs.Runs.{Ran}
+use Rattle.program.specs.declared.run.Ended.{Ended}
+use Rattle.program.specs.declared.run.Outcome.{Outcome}
+use Rattle.program.specs.Runs.{Ran}
 use Rattle.program.specs.Status.{status, Reported}
 use Rattle.program.proofs.oven_run.Statement.{statement}
 use Rattle.program.proofs.oven_run.Tie as tie

@@ -4,32 +4,32 @@ use mathlib.Core.Path.{_≡_, ap}
 use native.Mathlib.Omega.{arith}
 use borrow.Author.Needs.{needs}
 use Rattle.board.specs.Limits.{places-held}
-use Rattle.board.specs.Held.{in-slot}
-use Rattle.board.proofs.Soundness.Apart.{facts}
-use Rattle.calls.proofs.Admitting.InSlot.{in-first, in-all, in-none, in-more, in-no-more}
+use Rattle.calls.specs.InLimits.{in-slot-before}
+use Rattle.calls.proofs.Admitting.InSlot.{before-more, before-no-more}
 use Rattle.calls.proofs.admit.in_slot.Statement.{statement}
 use Rattle.calls.proofs.admit.in_slot.Tie as tie
 
 abbrev Inv-loop : tie.InvT-loop
-Inv-loop b at₀ at = (at ≤ b .count) × (in-first b at + (b .count - at) ≡ in-slot b)
+Inv-loop b at₀ at = (at ≤ b .count) × (in-slot-before b at + (b .count - at) ≡ in-slot-before b (b .count))
 
 abbrev μ-loop : tie.MeasureT-loop
 μ-loop b at₀ at = at
 
 loop-holds : tie.Need-loop-holds Inv-loop μ-loop
-loop-holds c = omega (arith, in-all (c .args .t1) (c .pre))
+loop-holds c = omega arith
 
 sub-if1 : tie.Need-sub-if1 Inv-loop μ-loop
 sub-if1 c = search needs
 
-within : (c : tie.In-loop Inv-loop μ-loop) → c .before .loop .at - 1 < 256
-unfolding places-held
-within c = omega (arith, facts (c .before .before .args .t1) (c .before .before .pre) .counted)
+within : (c : tie.In-loop Inv-loop μ-loop) → c .before .loop .at - 1 < places-held
+within c = omega (arith, c .before .before .pre)
 
 mul-if1 : tie.Need-mul-if1 Inv-loop μ-loop
+unfolding places-held
 mul-if1 c = omega (arith, within c)
 
 element-copy-out-if1 : tie.Need-element-copy-out-if1 Inv-loop μ-loop
+unfolding places-held
 element-copy-out-if1 c = within c
 
 sub-result : tie.Need-sub-result Inv-loop μ-loop
@@ -41,7 +41,7 @@ returns c =
     let b = l .before .args .t1 in
     let k = l .loop .at - 1 in
     let e : suc k ≡ l .loop .at = omega arith in
-    omega (arith, ap (in-first b) e, in-no-more b (l .before .pre) k (omega arith) (c .if1 .taken))
+    omega (arith, ap (in-slot-before b) e, before-no-more b k (c .if1 .taken))
 
 sub-at : tie.Need-sub-at Inv-loop μ-loop
 sub-at c = search needs
@@ -55,13 +55,14 @@ loop-again c =
     let b = l .before .args .t1 in
     let k = l .loop .at - 1 in
     let e : suc k ≡ l .loop .at = omega arith in
-    omega (arith, ap (in-first b) e, in-more b (l .before .pre) k (omega arith) (c .if1 .left))
+    omega (arith, ap (in-slot-before b) e, before-more b k (c .if1 .left))
 
 returns-2 : tie.Need-returns-2 Inv-loop μ-loop
+unfolding in-slot-before
 returns-2 c =
     let s = c .before .before in
     let e : c .before .loop .at ≡ 0 = omega arith in
-    omega (arith, ap (in-first (s .args .t1)) e, in-none (s .args .t1))
+    omega (arith, ap (in-slot-before (s .args .t1)) e)
 
 pub in-slot-spec : {M : Type 1} → statement M
 in-slot-spec =

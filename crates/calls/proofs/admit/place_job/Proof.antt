@@ -3,12 +3,12 @@ use mathlib.Core.Path.{refl}
 use native.Mathlib.Omega.{arith}
 use Rattle.board.specs.Limits.{longest-laxity, places-held, last-slot, deepest}
 use Rattle.board.specs.Admit.{last-of, with-job, admitted-if}
-use Rattle.calls.proofs.Admitting.LetThrough.{LetThrough, let-through}
+use Rattle.calls.specs.InLimits.{LetIn}
 use Rattle.calls.proofs.admit.place_job.Statement.{statement}
 use Rattle.calls.proofs.admit.place_job.Tie as tie
 
-known : (c : tie.Start) → LetThrough (c .args .t1) (c .args .laxity .0) (c .args .grade)
-known c = let-through (c .args .t1) (c .args .ticket) (c .args .laxity .0) (c .args .grade) (c .pre .0) (c .pre .1)
+known : (c : tie.Start) → LetIn (c .args .t1) (c .args .laxity .0) (c .args .grade)
+known c = c .pre
 
 add-t9 : tie.Need-add-t9
 unfolding longest-laxity last-slot

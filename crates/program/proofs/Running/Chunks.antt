@@ -1,0 +1,112 @@
+-- A chunk taken in part by part, and what each part prints written.
+use mathlib.Core.Bool.{true, false}
+use mathlib.Core.List.{_++_}
+use mathlib.Core.Path.{_≡_, refl, sym, ap, _∙_}
+use Prim.Native.Nat.{ℕ, _+_, _*_, _≤_, _<_}
+use native.Mathlib.Omega.{arith}
+use lib.ListN.{length, length-append}
+use Rattle.lists.proofs.Tests.{never}
+use Rattle.lines.specs.Bytes.{Bytes}
+use Rattle.lines.specs.Machine.{Machine, after-bytes, printed-along}
+use Rattle.program.specs.declared.feed.Desk.{Desk}
+use Rattle.program.specs.declared.feed.Fed.{Fed}
+use Rattle.program.specs.Days.{GoodDay, line-room}
+use Rattle.program.specs.Machines.{machine-of, used-bytes, TakenIn}
+use Rattle.program.specs.Runs.{ChunkTaken}
+use Rattle.program.proofs.Feeding.Along.{after-append, printed-append}
+use Rattle.program.proofs.Feeding.Parts.{part-none, part-join, part-whole}
+
+-- so many bytes of the chunk are taken in, and all that they print is written
+pub record Along (first : Desk) (chunk : Bytes) (desk : Desk) (used written : ℕ) : Type 0 where
+  pub good : GoodDay (desk .day)
+  pub held : desk .held .len ≤ 41
+  pub inside : used ≤ length chunk
+  pub number : desk .number ≤ first .number + used
+  pub machine : machine-of desk ≡ after-bytes (machine-of first) (used-bytes chunk 0 used)
+  pub all : written ≡ length (printed-along (machine-of first) (used-bytes chunk 0 used))
+  pub few : written ≤ line-room * used
+
+pub along-none : (first : Desk) (chunk : Bytes) → GoodDay (first .day) → first .held .len ≤ 41 → Along first chunk first 0 0
+unfolding after-bytes printed-along line-room
+along-none first chunk g h =
+    let e = part-none chunk 0 in
+    record { good = g; held = h; inside = omega arith; number = omega arith; machine = rw e; all = rw e; few = omega arith }
+
+module _ {first : Desk} {chunk : Bytes} {desk : Desk} {used written : ℕ} (a : Along first chunk desk used written) where
+  abbrev m : Machine
+  m = machine-of first
+
+  -- all bytes are taken in
+  pub along-whole : length chunk ≤ used → ChunkTaken first chunk (record { desk = desk; written = written; whole = true })
+  unfolding line-room
+  along-whole h =
+      let e : used-bytes chunk 0 used ≡ chunk = ap (used-bytes chunk 0) (omega (arith, a .inside)) ∙ part-whole chunk in
+      record {
+        good = a .good;
+        held = a .held;
+        number = omega (arith, a .number, a .inside);
+        few = omega (arith, a .few, a .inside);
+        machine = λ _. a .machine ∙ ap (after-bytes m) e;
+        all = λ _. a .all ∙ ap (λ (x : Bytes). length (printed-along m x)) e;
+        part = λ z. never refl z;
+      }
+
+  module _ {f : Fed} {out out' : Bytes} (t : TakenIn desk chunk used out 0 f out') where
+    abbrev one : Bytes
+    one = used-bytes chunk 0 used
+
+    abbrev more : Bytes
+    more = used-bytes chunk used (f .used)
+
+    joined : one ++ more ≡ used-bytes chunk 0 (f .used)
+    joined = part-join chunk 0 used (f .used) (omega arith) (t .forward) (t .inside)
+
+    -- a part more
+    pub along-more : Along first chunk (f .desk) (f .used) (written + f .at)
+    unfolding line-room
+    along-more =
+        record {
+          good = t .good;
+          held = t .held;
+          inside = t .inside;
+          number = omega (arith, t .number, a .number);
+          machine = t .machine
+              ∙ ap (λ (n : Machine). after-bytes n more) (a .machine)
+              ∙ sym (after-append m one more)
+              ∙ ap (after-bytes m) joined;
+          all = omega (
+            arith,
+            a .all,
+            t .end,
+            ap (λ (n : Machine). length (printed-along n more)) (a .machine),
+            length-append (printed-along m one) (printed-along (after-bytes m one) more),
+            ap length (printed-append m one more),
+            ap (λ (x : Bytes). length (printed-along m x)) joined,
+          );
+          few = omega (arith, a .few, t .few);
+        }
+
+    -- of what it prints, some is not written
+    pub along-part : (put : ℕ) → put < f .at → ChunkTaken first chunk (record { desk = f .desk; written = written + put; whole = false })
+    unfolding line-room
+    along-part put h =
+        let n = along-more in
+        let rest = used-bytes chunk (f .used) (length chunk) in
+        let u = used-bytes chunk 0 (f .used) in
+        let e : u ++ rest ≡ chunk = part-join chunk 0 (f .used) (length chunk) (omega arith) (t .inside) (omega arith) ∙ part-whole chunk in
+        record {
+          good = n .good;
+          held = n .held;
+          number = omega (arith, n .number, n .inside);
+          few = omega (arith, n .few, n .inside);
+          machine = λ z. never z refl;
+          all = λ z. never z refl;
+          part = λ _.
+              omega (
+                arith,
+                n .all,
+                length-append (printed-along m u) (printed-along (after-bytes m u) rest),
+                ap length (printed-append m u rest),
+                ap (λ (x : Bytes). length (printed-along m x)) e,
+              );
+        }

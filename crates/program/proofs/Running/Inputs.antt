@@ -1,0 +1,88 @@
+-- The bytes that a run has read, chunk by chunk, and what it has written of what they print.
+use mathlib.Core.Bool.{true, false}
+use mathlib.Core.List.{[], _++_}
+use mathlib.Core.Path.{_≡_, sym, ap, _∙_}
+use Prim.Native.Nat.{ℕ, _+_, _*_, _≤_, _<_}
+use native.Mathlib.Omega.{arith}
+use lib.ListN.{length, length-append}
+use Rattle.lines.specs.Bytes.{Bytes}
+use Rattle.lines.specs.Machine.{Machine, new-machine, after-bytes, printed-along}
+use Rattle.program.specs.declared.feed.Desk.{Desk}
+use Rattle.program.specs.declared.run.Ended.the-variants.{WriteFailed, TooLong}
+use Rattle.program.specs.declared.run.Outcome.{Outcome}
+use Rattle.program.specs.declared.run.Taken.{Taken}
+use Rattle.program.specs.Days.{GoodDay, line-room}
+use Rattle.program.specs.Machines.{machine-of, NewDesk}
+use Rattle.program.specs.Runs.{most-read, ChunkTaken, EndsSo, Ran, Stopped}
+use Rattle.program.proofs.Feeding.Along.{after-append, printed-append}
+use Rattle.program.proofs.Running.Whole.{output-length}
+
+-- so many bytes are read, and all that they print is written
+pub record SoFar (desk : Desk) (read written : ℕ) : Type 0 where
+  pub input : Bytes
+  pub count : read ≡ length input
+  pub good : GoodDay (desk .day)
+  pub held : desk .held .len ≤ 41
+  pub number : desk .number ≤ 1 + read
+  pub machine : machine-of desk ≡ after-bytes new-machine input
+  pub all : written ≡ length (printed-along new-machine input)
+  pub few : written ≤ line-room * read
+
+pub nothing-read : {k : Desk} → NewDesk k → SoFar k 0 0
+unfolding after-bytes printed-along line-room
+nothing-read n =
+    record {
+      input = [];
+      count = omega arith;
+      good = n .good;
+      held = n .held;
+      number = omega (arith, n .number);
+      machine = n .machine;
+      all = omega arith;
+      few = omega arith;
+    }
+
+module _ {desk : Desk} {read written : ℕ} (s : SoFar desk read written) where
+  pub stopped : {r : Outcome} → Stopped desk read written r → Ran r
+  stopped e = record { input = s .input; count = e .same ∙ s .count; ends = e .ends (s .input) (s .machine) (s .all) }
+
+  pub too-long : most-read ≤ read → Ran (record { ended = TooLong; read = read; written = written })
+  unfolding EndsSo
+  too-long h = record { input = s .input; count = s .count; ends = (omega (arith, s .count), s .all) }
+
+  module _ {bytes : Bytes} {n : ℕ} (e : length bytes ≡ n) {t : Taken} (c : ChunkTaken desk bytes t) where
+    abbrev both : Bytes
+    both = s .input ++ bytes
+
+    sum : read + n ≡ length both
+    sum = omega (arith, s .count, length-append (s .input) bytes)
+
+    -- what both print is what the input prints, and then the chunk
+    printed : length (printed-along new-machine both) ≡ written + length (printed-along (machine-of desk) bytes)
+    printed =
+        let m = after-bytes new-machine (s .input) in
+        omega (
+          arith,
+          s .all,
+          ap length (printed-append new-machine (s .input) bytes),
+          length-append (printed-along new-machine (s .input)) (printed-along m bytes),
+          ap (λ (k : Machine). length (printed-along k bytes)) (s .machine),
+        )
+
+    pub chunk-more : t .whole ≡ true → SoFar (t .desk) (read + n) (written + t .written)
+    unfolding line-room
+    chunk-more h =
+        record {
+          input = both;
+          count = sum;
+          good = c .good;
+          held = c .held;
+          number = omega (arith, c .number, s .number);
+          machine = c .machine h ∙ ap (λ (k : Machine). after-bytes k bytes) (s .machine) ∙ sym (after-append new-machine (s .input) bytes);
+          all = omega (arith, c .all h, printed);
+          few = omega (arith, c .few, s .few);
+        }
+
+    pub chunk-part : t .whole ≡ false → Ran (record { ended = WriteFailed; read = read + n; written = written + t .written })
+    unfolding EndsSo
+    chunk-part h = record { input = both; count = sum; ends = omega (arith, c .part h, printed, output-length both) }

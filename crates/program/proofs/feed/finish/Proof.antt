@@ -1,0 +1,120 @@
+-- `finish`: the last line's answer, and behind it the tally of an open board.
+use mathlib.Core.Bool.{true}
+use mathlib.Core.List.{_++_}
+use mathlib.Core.Path.{_≡_, sym, ap, _∙_}
+use Prim.Native.Nat.{ℕ, _+_, _≤_}
+use native.Mathlib.Omega.{arith}
+use borrow.Author.Needs.{needs}
+use borrow.Author.Tests.{not-true, not-false}
+use lib.ListN.{length}
+use lib.Pow.{pow-mono}
+use Rattle.board.specs.Limits.{deepest}
+use Rattle.board.proofs.Soundness.Apart.{facts}
+use Rattle.lines.specs.Bytes.{Bytes}
+use Rattle.lines.specs.Session.{printed-tally}
+use Rattle.lines.specs.Machine.{printed-at-end}
+use Rattle.printing.specs.Lines.{put}
+use Rattle.program.specs.Days.{GoodDay, line-room}
+use Rattle.program.specs.Machines.{machine-of, end-room, last-answer}
+use Rattle.program.proofs.Answering.Pieces.{all-left, fewer-left}
+use Rattle.program.proofs.Feeding.Ending.{end-closed, end-open}
+use Rattle.program.proofs.feed.finish.Statement.{statement}
+use Rattle.program.proofs.feed.finish.Tie as tie
+
+last-line-requires : tie.Need-last-line-requires
+unfolding line-room end-room
+last-line-requires c κs =
+    let s = c .before .before in
+    (s .pre .0, (s .pre .1 .0, omega (arith, s .pre .1 .1)))
+
+same-length : tie.Need-same-length
+same-length c = search needs
+
+returns : tie.Need-returns
+unfolding line-room end-room
+returns c =
+    let r = c .before .before .before .before .before in
+    let s = r .before .before .before in
+    let a = s .args in
+    let l = r .last-line .ensures in
+    let d = r .last-line .result .day in
+    let e = end-closed (machine-of (a .desk)) d (l .session) (not-true (d .opened) (c .if1 .taken)) in
+    record {
+      end = l .end ∙ ap (λ (x : Bytes). a .at + length x) (sym e);
+      fits = omega (arith, l .within, s .pre .1 .1);
+      bytes = l .bytes ∙ ap (put (a .out .now) (a .at)) (sym e);
+    }
+
+-- the place behind the last line
+abbrev at-last : tie.Else1 → tie.After-last-line
+at-last c = c .before .before .before .before .before
+
+opened : (c : tie.Else1) → at-last c .last-line .result .day .opened ≡ true
+opened c = not-false (at-last c .last-line .result .day .opened) (c .if1 .left)
+
+shallow : (c : tie.Else1) → at-last c .last-line .result .day .board .depth ≤ 3
+unfolding GoodDay deepest
+shallow c =
+    let l = at-last c .last-line in
+    facts (l .result .day .board) (l .ensures .good (opened c)) .shallow
+
+grades-requires : tie.Need-grades-requires
+unfolding deepest
+grades-requires c κs = shallow c
+
+cast-grades : tie.Need-cast-grades
+cast-grades c = search needs
+
+say-tally-requires : tie.Need-say-tally-requires
+unfolding line-room end-room
+say-tally-requires c κs =
+    let g = c .before .before in
+    let r = at-last (g .before) in
+    let s = r .before .before .before in
+    let few : g .grades .result ≤ 8 = omega (arith, g .grades .ensures, pow-mono (shallow (g .before))) in
+    (few, omega (arith, r .last-line .ensures .within, r .last-line .kept .1 .0, s .pre .1 .1))
+
+same-length-2 : tie.Need-same-length-2
+same-length-2 c = search needs
+
+returns-2 : tie.Need-returns-2
+unfolding end-room
+returns-2 c =
+    let p = c .before .before .say-tally .ensures in
+    let g = c .before .before .before .before .before in
+    let r = at-last (g .before) in
+    let s = r .before .before .before in
+    let a = s .args in
+    let l = r .last-line .ensures in
+    let d = r .last-line .result .day in
+    let m = machine-of (a .desk) in
+    let first = last-answer m .output in
+    let second = printed-tally (g .grades .result) 0 (d .tally) in
+    let e : printed-at-end m ≡ first ++ second =
+    end-open m d (l .session) (opened (g .before)) ∙ ap (λ (n : ℕ). first ++ printed-tally n 0 (d .tally)) (sym (g .grades .ensures))
+    in
+    let left =
+    fewer-left first second (a .out .now) (a .at) (r .last-line .last .1 .0) (r .last-line .result .at)
+    (all-left (first ++ second) (a .out .now) (a .at))
+    (omega (arith, s .pre .1 .1))
+    (l .end)
+    (l .bytes)
+    in
+    record {
+      end = p .end ∙ left .end ∙ ap (λ (x : Bytes). a .at + length x) (sym e);
+      fits = omega (arith, p .fits, r .last-line .kept .1 .0);
+      bytes = p .bytes ∙ left .bytes ∙ ap (put (a .out .now) (a .at)) (sym e);
+    }
+
+pub finish-spec : {M : Type 1} → statement M
+finish-spec =
+    tie.close
+    (tie.spec
+    last-line-requires
+    same-length
+    returns
+    grades-requires
+    cast-grades
+    say-tally-requires
+    same-length-2
+    returns-2)

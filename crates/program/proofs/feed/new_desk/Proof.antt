@@ -1,0 +1,33 @@
+-- `new_desk`: no board, nothing counted, no byte held.
+use mathlib.Core.List.{[]}
+use mathlib.Core.Option.{none}
+use mathlib.Core.Path.{refl, ap}
+use borrow.Author.Needs.{needs}
+use Rattle.lists.proofs.Tests.{never}
+use Rattle.board.specs.declared.Tally.{Tally}
+use Rattle.lines.specs.Session.{new-session}
+use Rattle.lines.specs.Machine.{new-machine}
+use Rattle.program.specs.Days.{session-of, GoodDay}
+use Rattle.program.specs.Machines.{held-bytes, machine-of}
+use Rattle.program.proofs.Feeding.Along.{reading}
+use Rattle.program.proofs.feed.new_desk.Statement.{statement}
+use Rattle.program.proofs.feed.new_desk.Tie as tie
+
+open-requires : tie.Need-open-requires
+open-requires c κs = search needs
+
+zero-requires : tie.Need-zero-requires
+zero-requires c κs = search needs
+
+returns : tie.Need-returns
+unfolding GoodDay machine-of session-of held-bytes new-machine new-session
+returns c =
+    record {
+      good = λ e. never e refl;
+      machine = ap (λ (t : Tally). reading (record { board = none; tally = t }) 1 []) (c .zero .ensures);
+      number = refl;
+      held = search needs;
+    }
+
+pub new-desk-spec : {M : Type 1} → statement M
+new-desk-spec = tie.close (tie.spec open-requires zero-requires returns)

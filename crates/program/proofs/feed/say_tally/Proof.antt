@@ -1,0 +1,101 @@
+-- `say_tally`: with the lines that are left put behind, the tally is the whole one.
+use mathlib.Core.List.{[], _∷_}
+use mathlib.Core.Path.{_≡_, refl, ap, _∙_}
+use Prim.Native.Nat.{_+_, _*_, _-_, _≤_}
+use native.Mathlib.Nat.{sub-zero}
+use native.Mathlib.Omega.{arith}
+use borrow.Author.Needs.{needs}
+use lib.ListN.{length}
+use Rattle.board.specs.Tally.{count-at}
+use Rattle.lines.specs.Bytes.{Bytes, letter-T}
+use Rattle.lines.specs.Printing.{printed}
+use Rattle.lines.specs.Session.{printed-tally}
+use Rattle.printing.specs.Lines.{put}
+use Rattle.program.proofs.Answering.Pieces.{Left, all-left, fewer-left, none-left}
+use Rattle.program.proofs.Feeding.Ending.{tally-next, tally-done}
+use Rattle.program.proofs.feed.say_tally.Statement.{statement}
+use Rattle.program.proofs.feed.say_tally.Tie as tie
+
+abbrev Inv-loop : tie.InvT-loop
+Inv-loop t grades out₀ at end₀ g₀ out end g =
+    (g ≤ grades)
+    × (end ≤ at + 96 * g)
+    × (length out ≡ length out₀)
+    × Left (printed-tally grades 0 t) out₀ at (printed-tally (grades - g) g t) out end
+
+abbrev μ-loop : tie.MeasureT-loop
+μ-loop t grades out₀ at end₀ g₀ out end g = grades - g
+
+loop-holds : tie.Need-loop-holds Inv-loop μ-loop
+loop-holds c = (omega arith, omega arith, refl, rw sub-zero (all-left _ _ _))
+
+count-of-requires : tie.Need-count-of-requires Inv-loop μ-loop
+count-of-requires c κs = search needs
+
+count-of-requires-2 : tie.Need-count-of-requires-2 Inv-loop μ-loop
+count-of-requires-2 c κs = search needs
+
+count-of-requires-3 : tie.Need-count-of-requires-3 Inv-loop μ-loop
+count-of-requires-3 c κs = search needs
+
+say-requires : tie.Need-say-requires Inv-loop μ-loop
+say-requires c κs = search needs
+
+add-g : tie.Need-add-g Inv-loop μ-loop
+add-g c = search needs
+
+loop-less : tie.Need-loop-less Inv-loop μ-loop
+loop-less c = search needs
+
+loop-again : tie.Need-loop-again Inv-loop μ-loop
+unfolding letter-T
+loop-again c =
+    let p = c .before .before .say in
+    let q = c .before .before .before .before in
+    let t = q .before .before .before in
+    let s = t .before .before .before in
+    let a = s .args in
+    let l = t .before .loop in
+    let v = l .inv in
+    let g = l .g in
+    let line = printed letter-T (g ∷ count-at (a .t) 0 g ∷ count-at (a .t) 1 g ∷ count-at (a .t) 2 g ∷ []) in
+    let said : printed 84 (g ∷ q .before .before .count-of .result ∷ q .before .count-of2 .result ∷ q .count-of3 .result ∷ []) ≡ line =
+    rw (q .before .before .count-of .ensures, q .before .count-of2 .ensures, q .count-of3 .ensures)
+    in
+    let rest = printed-tally (a .grades - (g + 1)) (g + 1) (a .t) in
+    let n = tally-next (a .grades) g (a .t) (t .loop-test .taken) in (
+      omega arith,
+      omega arith,
+      p .kept .0 ∙ v .2,
+      fewer-left line rest (l .out) (l .end) _ _ (rw n at (v .3)) (omega arith)
+          (p .ensures .0 ∙ ap (λ (x : Bytes). l .end + length x) said)
+          (p .ensures .2 ∙ ap (put (l .out) (l .end)) said),
+    )
+
+same-length : tie.Need-same-length Inv-loop μ-loop
+same-length c = search needs
+
+returns : tie.Need-returns Inv-loop μ-loop
+returns c =
+    let s = c .before .before .before in
+    let a = s .args in
+    let l = c .before .loop in
+    let n = none-left _ _ (rw (tally-done (a .grades) (l .g) (a .t) (c .loop-test .left)) at (l .inv .3)) in
+    record { end = n .0; fits = omega arith; bytes = n .1 }
+
+pub say-tally-spec : {M : Type 1} → statement M
+say-tally-spec =
+    tie.close
+    (tie.spec
+    Inv-loop
+    μ-loop
+    loop-holds
+    count-of-requires
+    count-of-requires-2
+    count-of-requires-3
+    say-requires
+    add-g
+    loop-less
+    loop-again
+    same-length
+    returns)

@@ -1,0 +1,169 @@
+-- `program::session::close_line`: refused, or the next board, its lines and its events. Assumes nothing.
+use mathlib.Core.Path.{_≡_, sym, ap, _∙_}
+use mathlib.Core.Bool.{true}
+use native.Mathlib.Omega.{arith}
+use borrow.Author.Needs.{needs}
+use lib.ListN.{take}
+use lib.Seq.{length-take-le}
+use Rattle.board.specs.Limits.{places-held}
+use Rattle.board.specs.Sound.{sound}
+use Rattle.board.specs.Close.{closed}
+use Rattle.board.specs.Lent.{entries}
+use Rattle.lines.specs.Bytes.{letter-B}
+use Rattle.program.specs.Days.{GoodDay, line-room, count-grades}
+use Rattle.program.proofs.Answering.Answers.{given-as}
+use Rattle.program.proofs.Answering.Entries.{Entered, entered}
+use Rattle.program.proofs.Answering.Closings.{close-refused, close-given}
+use Rattle.program.proofs.session.close_line.Statement.{statement}
+use Rattle.program.proofs.session.close_line.Tie as tie
+
+-- places further back: the entry, the closing, and where the closing is known to be no refusal
+abbrev entry : tie.After-close-sound → tie.Start
+entry k = k .before .before .before .before .before .before
+
+abbrev closing : tie.Else1 → tie.After-close-sound
+closing e = e .before .before .before .before .before
+
+abbrev going : tie.After-slice-known3 → tie.Else1
+going d = d .before .before .before .before .before .before .before .before .before
+
+board-sound : (s : tie.Start) → sound (s .args .day .board) ≡ true
+unfolding GoodDay
+board-sound s = s .pre .0 (s .pre .1 .0)
+
+-- the lists that are lent have an entry for every place
+closed-full : (k : tie.After-close-sound) → k .close-sound .result ≡ closed (entry k .args .day .board) places-held
+unfolding entries places-held
+closed-full k = k .close-sound .ensures .0
+
+listed : (d : tie.After-slice-known3) → let k = closing (going d) in
+    Entered (entry k .args .day .board) (k .close-sound .result .expired) (k .close-sound .last .1 .0) (k .close-sound .last .1 .1 .0)
+listed d =
+    let e = going d in
+    let k = closing e in
+    entered _ _ _ _ (k .close-sound .result) (board-sound (entry k)) (k .close-sound .ensures .0) (e .if1 .left) (k .close-sound .ensures .1 .1)
+
+slice-aggregate-close-sound : tie.Need-slice-aggregate-close-sound
+slice-aggregate-close-sound c = search needs
+
+slice-aggregate-close-sound-2 : tie.Need-slice-aggregate-close-sound-2
+slice-aggregate-close-sound-2 c = search needs
+
+slice-aggregate-close-sound-3 : tie.Need-slice-aggregate-close-sound-3
+slice-aggregate-close-sound-3 c = search needs
+
+close-sound-requires : tie.Need-close-sound-requires
+close-sound-requires c κs = board-sound (c .before .before .before .before .before)
+
+refuse-requires : tie.Need-refuse-requires
+refuse-requires c κs = search needs
+
+same-length : tie.Need-same-length
+same-length c = search needs
+
+returns : tie.Need-returns
+returns c =
+    let t = c .before .before .before .before in
+    let k = t .before .before .before .before .before in
+    given-as (close-refused _ _ (k .close-sound .result) (closed-full k) (t .if1 .taken)) (c .before .before .refuse .ensures)
+
+cast-n : tie.Need-cast-n
+cast-n c = search needs
+
+cast-t29 : tie.Need-cast-t29
+cast-t29 c = search needs
+
+cast-t30 : tie.Need-cast-t30
+cast-t30 c = search needs
+
+cast-t31 : tie.Need-cast-t31
+cast-t31 c = search needs
+
+cast-t32 : tie.Need-cast-t32
+cast-t32 c = search needs
+
+say-requires : tie.Need-say-requires
+unfolding line-room
+say-requires c κs = omega (arith, entry (closing (c .before .before .before .before .before .before)) .pre .1 .1)
+
+array-share-prefix-tickets : tie.Need-array-share-prefix-tickets
+array-share-prefix-tickets c = listed c .in-tickets
+
+slice-aggregate-say-gone : tie.Need-slice-aggregate-say-gone
+slice-aggregate-say-gone c = sym (length-take-le _ _ (listed (c .before) .in-tickets))
+
+array-share-prefix-grades : tie.Need-array-share-prefix-grades
+array-share-prefix-grades c = listed (c .before) .in-grades
+
+slice-aggregate-say-gone-2 : tie.Need-slice-aggregate-say-gone-2
+slice-aggregate-say-gone-2 c = sym (length-take-le _ _ (listed (c .before .before) .in-grades))
+
+say-gone-requires : tie.Need-say-gone-requires
+unfolding line-room
+say-gone-requires c κs =
+    let d = c .before .before .before in
+    let s = d .before .before in
+    let n = listed d in
+    let t = length-take-le _ _ (n .in-tickets) in
+    let g = length-take-le _ _ (n .in-grades) in
+    (g ∙ sym t, omega (arith, t, n .few, s .say .ensures .1, s .say .kept .0, entry (closing (going d)) .pre .1 .1))
+
+count-baked-requires : tie.Need-count-baked-requires
+count-baked-requires c κs = search needs
+
+array-share-prefix-grades-2 : tie.Need-array-share-prefix-grades-2
+array-share-prefix-grades-2 c = listed (c .before .before .before .before .before .before .before .before) .in-grades
+
+slice-aggregate-count-gone : tie.Need-slice-aggregate-count-gone
+slice-aggregate-count-gone c =
+    sym (length-take-le _ _ (listed (c .before .before .before .before .before .before .before .before .before) .in-grades))
+
+count-gone-requires : tie.Need-count-gone-requires
+count-gone-requires c κs = search needs
+
+same-length-2 : tie.Need-same-length-2
+same-length-2 c = search needs
+
+returns-2 : tie.Need-returns-2
+unfolding letter-B line-room
+returns-2 c =
+    let y = c .before .before .before in
+    let g = y .before .before .before .before in
+    let d = g .before .before .before .before in
+    let k = closing (going d) in
+    let s = entry k in
+    let n = listed d in
+    let grades = take (k .close-sound .result .expired) (k .close-sound .last .1 .1 .0) in
+    close-given _ _ (k .close-sound .result) (closed-full k) _ _ _ (board-sound s) (going d .if1 .left) (omega (arith, s .pre .1 .1)) (n .tickets) (n .grades)
+    (d .before .before .say .ensures)
+    (g .say-gone .ensures)
+    (c .before .count-gone .ensures ∙ ap (count-grades 2 grades) (y .count-baked .ensures))
+
+pub close-line-spec : {M : Type 1} → statement M
+close-line-spec =
+    tie.close
+    (tie.spec
+    slice-aggregate-close-sound
+    slice-aggregate-close-sound-2
+    slice-aggregate-close-sound-3
+    close-sound-requires
+    refuse-requires
+    same-length
+    returns
+    cast-n
+    cast-t29
+    cast-t30
+    cast-t31
+    cast-t32
+    say-requires
+    array-share-prefix-tickets
+    slice-aggregate-say-gone
+    array-share-prefix-grades
+    slice-aggregate-say-gone-2
+    say-gone-requires
+    count-baked-requires
+    array-share-prefix-grades-2
+    slice-aggregate-count-gone
+    count-gone-requires
+    same-length-2
+    returns-2)

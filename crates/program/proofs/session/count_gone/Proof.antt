@@ -1,0 +1,59 @@
+-- `program::session::count_gone`: the events that are left come after those counted. Assumes nothing.
+use mathlib.Core.Path.{_≡_, refl, sym, ap, _∙_}
+use Prim.Native.Nat.{_+_, _-_, _≤_}
+use native.Mathlib.Omega.{arith}
+use borrow.Author.Needs.{needs}
+use lib.ListN.{length, drop}
+use Rattle.program.specs.Days.{count-grades}
+use Rattle.program.proofs.Answering.Entries.{next-event, no-event}
+use Rattle.program.proofs.session.count_gone.Statement.{statement}
+use Rattle.program.proofs.session.count_gone.Tie as tie
+
+abbrev Inv-loop : tie.InvT-loop
+Inv-loop grades tally₀ i₀ tally i =
+    (i ≤ length grades) × (count-grades 2 (drop i grades) tally ≡ count-grades 2 grades tally₀)
+
+abbrev μ-loop : tie.MeasureT-loop
+μ-loop grades tally₀ i₀ tally i = length grades - i
+
+loop-holds : tie.Need-loop-holds Inv-loop μ-loop
+loop-holds c = (omega arith, refl)
+
+shared-slice-read-count : tie.Need-shared-slice-read-count Inv-loop μ-loop
+shared-slice-read-count c = search needs
+
+cast-count : tie.Need-cast-count Inv-loop μ-loop
+cast-count c = omega (arith, c .shared-slice-known2 .given (c .before .before .loop .i))
+
+count-requires : tie.Need-count-requires Inv-loop μ-loop
+count-requires c κs = search needs
+
+add-i : tie.Need-add-i Inv-loop μ-loop
+add-i c = search needs
+
+loop-less : tie.Need-loop-less Inv-loop μ-loop
+loop-less c = search needs
+
+loop-again : tie.Need-loop-again Inv-loop μ-loop
+loop-again c =
+    let l = c .before .before .before in
+    let rest = drop (l .loop .i + 1) (l .before .before .args .grades .now) in
+    (omega arith, ap (count-grades 2 rest) (c .count .ensures) ∙ sym (next-event 2 _ _ _ (c .before .before .loop-test .taken)) ∙ l .loop .inv .1)
+
+returns : tie.Need-returns Inv-loop μ-loop
+returns c = sym (no-event 2 _ _ _ (c .loop-test .left)) ∙ c .before .loop .inv .1
+
+pub count-gone-spec : {M : Type 1} → statement M
+count-gone-spec =
+    tie.close
+    (tie.spec
+    Inv-loop
+    μ-loop
+    loop-holds
+    shared-slice-read-count
+    cast-count
+    count-requires
+    add-i
+    loop-less
+    loop-again
+    returns)

@@ -1,0 +1,21 @@
+-- `program::session::refuse`: the day is as it was. Assumes nothing.
+use borrow.Author.Needs.{needs}
+use Rattle.lines.specs.Bytes.{letter-R}
+use Rattle.program.specs.Days.{line-room}
+use Rattle.program.proofs.Answering.Answers.{refusal-given}
+use Rattle.program.proofs.session.refuse.Statement.{statement}
+use Rattle.program.proofs.session.refuse.Tie as tie
+
+say-requires : tie.Need-say-requires
+unfolding line-room
+say-requires c κs = search needs
+
+same-length : tie.Need-same-length
+same-length c = search needs
+
+returns : tie.Need-returns
+unfolding letter-R
+returns c = refusal-given _ _ _ (c .before .before .before .before .before .pre .0) (c .before .before .say .ensures)
+
+pub refuse-spec : {M : Type 1} → statement M
+refuse-spec = tie.close (tie.spec say-requires same-length returns)

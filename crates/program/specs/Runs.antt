@@ -1,0 +1,53 @@
+-- What a run of the program does, as far as a contract can say it: which bytes the system gives to a read, and what it does with those that a write
+-- hands it, no contract can say. It says how many.
+use mathlib.Core.Path.{_≡_}
+use mathlib.Core.Bool.{true, false}
+use Prim.Native.Nat.{ℕ, _+_, _*_, _≤_, _<_}
+use lib.ListN.{length}
+use Rattle.lines.specs.Bytes.{Bytes}
+use Rattle.lines.specs.Session.{output}
+use Rattle.lines.specs.Machine.{new-machine, after-bytes, printed-along, printed-at-end}
+use Rattle.program.specs.declared.feed.Desk.{Desk}
+use Rattle.program.specs.declared.run.Ended.{Ended}
+use Rattle.program.specs.declared.run.Ended.the-variants.{Whole, ReadFailed, WriteFailed, TooLong}
+use Rattle.program.specs.declared.run.Outcome.{Outcome}
+use Rattle.program.specs.declared.run.Taken.{Taken}
+use Rattle.program.specs.Days.{GoodDay, line-room}
+use Rattle.program.specs.Machines.{machine-of}
+
+-- `Outcome::MOST_READ`
+unfoldable pub most-read : ℕ
+most-read = 281_474_976_710_656
+
+-- bytes of a buffer, and of a chunk at the most
+unfoldable pub buffer-length : ℕ
+buffer-length = 65_536
+
+-- A chunk taken in. All that it prints was written, or else a part.
+pub record ChunkTaken (desk : Desk) (chunk : Bytes) (r : Taken) : Type 0 where
+  pub good : GoodDay (r .desk .day)
+  pub held : r .desk .held .len ≤ 41
+  pub number : r .desk .number ≤ desk .number + length chunk
+  pub few : r .written ≤ line-room * length chunk
+  pub machine : r .whole ≡ true → machine-of (r .desk) ≡ after-bytes (machine-of desk) chunk
+  pub all : r .whole ≡ true → r .written ≡ length (printed-along (machine-of desk) chunk)
+  pub part : r .whole ≡ false → r .written < length (printed-along (machine-of desk) chunk)
+
+-- the bytes that a run has written when it ends so, of the bytes that it read
+unfoldable pub EndsSo : Ended → (written : ℕ) → (input : Bytes) → Type 0
+EndsSo Whole w input = w ≡ length (output input)
+EndsSo ReadFailed w input = w ≡ length (printed-along new-machine input)
+EndsSo WriteFailed w input = w < length (output input)
+EndsSo TooLong w input = (most-read ≤ length input) × (w ≡ length (printed-along new-machine input))
+
+-- A run: the bytes that it read, one after the other, and what it had written when it ended. Where it ends whole that is the whole output.
+pub record Ran (r : Outcome) : Type 0 where
+  pub input : Bytes
+  pub count : r .read ≡ length input
+  pub ends : EndsSo (r .ended) (r .written) input
+
+-- No more bytes, after so many read and written: it ended so, whatever bytes led to this desk and this number written.
+pub record Stopped (desk : Desk) (read written : ℕ) (r : Outcome) : Type 0 where
+  pub same : r .read ≡ read
+  pub ends : (input : Bytes) → machine-of desk ≡ after-bytes new-machine input → written ≡ length (printed-along new-machine input)
+      → EndsSo (r .ended) (r .written) input

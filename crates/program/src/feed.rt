@@ -1,0 +1,197 @@
+// Bytes taken in: lines of any length, of which the first 41 bytes are held.
+ghost use mathlib.Core.Path.{_≡_};
+ghost use Prim.Native.Nat.{_+_, _*_, _≤_, _<_, _^_};
+ghost use lib.ListN.{length};
+ghost use Rattle.board.specs.Tally.{count-at};
+ghost use Rattle.lines.specs.Session.{printed-tally};
+ghost use Rattle.lines.specs.Machine.{printed-at-end};
+ghost use Rattle.program.specs.Days.{GoodDay, line-room, Given};
+ghost use Rattle.program.specs.Machines.{NewDesk, held-bytes, machine-of, used-bytes, LineEnds, hold-all, TakenIn, GoesOn, end-room, last-answer, PutAt};
+use crate::admit;
+use crate::session;
+use crate::session::Day;
+use crate::session::Said;
+use board::Board;
+use board::Tally;
+
+// The bytes of a line so far, the first 41 at the most.
+pub struct Held {
+    pub bytes: [u8; Held::ROOM],
+    pub len: usize,
+}
+
+impl Held {
+    // One more than a line may have.
+    pub const ROOM: usize = 41;
+}
+
+// What the program holds between two bytes: the day, the number of the line that is being read, and its bytes so far.
+pub struct Desk {
+    pub day: Day,
+    pub number: u64,
+    pub held: Held,
+}
+
+// A part of a chunk taken in: the desk after it, how far the chunk is used, and where the output ends.
+pub struct Fed {
+    pub desk: Desk,
+    pub used: usize,
+    pub at: usize,
+}
+
+// Bytes that are enough for what one line prints.
+pub(crate) const LINE_ROOM: usize = 24_672;
+
+// Bytes that are enough for what the end of input prints.
+pub(crate) const END_ROOM: usize = 25_440;
+
+// The desk before the first byte.
+pub(crate) fn new_desk() -> Desk
+    ensures { λ r. ⌜ NewDesk r ⌝ }
+{
+    let o = Board::open(0);
+    let board = o.board;
+    let tally = tally::zero();
+    let day = Day {
+        opened: false,
+        board,
+        tally,
+    };
+    let held = Held {
+        bytes: [0; Held::ROOM],
+        len: 0,
+    };
+    Desk {
+        day,
+        number: 1,
+        held,
+    }
+}
+
+// Where the line that goes on at `from` ends: the place of the next byte 10, or the chunk's length.
+fn line_end(chunk: &[u8], from: usize) -> usize
+    requires { ⌜ from ≤ length (now chunk) ⌝ }
+    ensures { λ r. ⌜ LineEnds (now (chunk .entry)) from r ⌝ }
+{
+    let mut i = from;
+    while i < chunk.len() {
+        if chunk[i] == b'\n' {
+            return i;
+        }
+        i += 1;
+    }
+    i
+}
+
+// The line with the chunk's bytes from `from` up to `to` as well, as far as there is room.
+fn hold_part(h: Held, chunk: &[u8], from: usize, to: usize) -> Held
+    requires { ⌜ (h .len ≤ 41) × (from ≤ to) × (to ≤ length (now chunk)) ⌝ }
+    ensures { λ r. ⌜ (r .len ≤ 41) × (held-bytes r ≡ hold-all (held-bytes h) (used-bytes (now (chunk .entry)) from to)) ⌝ }
+{
+    let mut held = h;
+    let mut i = from;
+    while i < to {
+        let at = held.len;
+        if at < Held::ROOM {
+            held.bytes[at] = chunk[i];
+            held.len = at + 1;
+        }
+        i += 1;
+    }
+    held
+}
+
+// Takes in the chunk's bytes from `from` on, line by line, while the buffer has room for what a line may print.
+pub(crate) fn feed(desk: Desk, chunk: &[u8], from: usize, out: &mut [u8], at: usize) -> Fed
+    requires { ⌜ GoodDay (desk .day) ⌝ }
+    requires { ⌜ (desk .held .len ≤ 41) × (from ≤ length (now chunk)) × (at ≤ length (now out)) ⌝ }
+    requires { ⌜ desk .number + length (now chunk) < from + 2 ^ 63 ⌝ }
+    ensures { λ r. ⌜ TakenIn desk (now (chunk .entry)) from (now (out .entry)) at r (now (out .exit)) ⌝ }
+    ensures { λ r. ⌜ GoesOn (now (chunk .entry)) from (now (out .entry)) at r ⌝ }
+{
+    let mut day = desk.day;
+    let mut number = desk.number;
+    let mut held = desk.held;
+    let mut used = from;
+    let mut end = at;
+    while used < chunk.len() && end + LINE_ROOM <= out.len() {
+        let to = line_end(chunk, used);
+        held = hold_part(held, chunk, used, to);
+        used = to;
+        if to < chunk.len() {
+            let bytes = held.bytes;
+            let len = held.len;
+            let said = session::answer_line(day, number, &bytes[..len], out, end);
+            day = said.day;
+            end = said.at;
+            number += 1;
+            held.len = 0;
+            used = to + 1;
+        }
+    }
+    let left = Desk { day, number, held };
+    Fed {
+        desk: left,
+        used,
+        at: end,
+    }
+}
+
+// Answers a line that has begun.
+fn last_line(desk: Desk, out: &mut [u8], at: usize) -> Said
+    requires { ⌜ GoodDay (desk .day) ⌝ }
+    requires { ⌜ (desk .held .len ≤ 41) × (at + line-room ≤ length (now out)) ⌝ }
+    ensures { λ r. ⌜ Given (last-answer (machine-of desk)) (now (out .entry)) at r (now (out .exit)) ⌝ }
+{
+    let day = desk.day;
+    let held = desk.held;
+    let len = held.len;
+    if len == 0 {
+        return Said { day, at };
+    }
+    let bytes = held.bytes;
+    session::answer_line(day, desk.number, &bytes[..len], out, at)
+}
+
+// A count of the tally.
+fn count_of(t: Tally, kind: usize, grade: usize) -> u64
+    requires { ⌜ (kind ≤ 2) × (grade ≤ 7) ⌝ }
+    ensures { λ r. ⌜ r ≡ count-at t kind grade ⌝ }
+{
+    let at = kind * 8 + grade;
+    let n = t.counts[at];
+    n as u64
+}
+
+// Prints the tally, a line for each of so many grades.
+fn say_tally(t: Tally, grades: usize, out: &mut [u8], at: usize) -> usize
+    requires { ⌜ (grades ≤ 8) × (at + 96 * grades ≤ length (now out)) ⌝ }
+    ensures { λ r. ⌜ PutAt (printed-tally grades 0 t) (now (out .entry)) at r (now (out .exit)) ⌝ }
+{
+    let mut end = at;
+    let mut g: usize = 0;
+    while g < grades {
+        let admitted = count_of(t, 0, g);
+        let baked = count_of(t, 1, g);
+        let expired = count_of(t, 2, g);
+        end = session::say(out, end, b'T', [g as u64, admitted, baked, expired], 4);
+        g += 1;
+    }
+    end
+}
+
+// The end of input: a line that has begun is answered, and the tally of an open board is printed.
+pub(crate) fn finish(desk: Desk, out: &mut [u8], at: usize) -> usize
+    requires { ⌜ GoodDay (desk .day) ⌝ }
+    requires { ⌜ (desk .held .len ≤ 41) × (at + end-room ≤ length (now out)) ⌝ }
+    ensures { λ r. ⌜ PutAt (printed-at-end (machine-of desk)) (now (out .entry)) at r (now (out .exit)) ⌝ }
+{
+    let said = last_line(desk, out, at);
+    let day = said.day;
+    if !day.opened {
+        return said.at;
+    }
+    let grades = admit::grades(day.board.depth) as usize;
+    let tally = day.tally;
+    say_tally(tally, grades, out, said.at)
+}

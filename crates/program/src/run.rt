@@ -1,0 +1,161 @@
+// The program: standard input to standard output.
+ghost use mathlib.Core.Path.{_≡_};
+ghost use Prim.Native.Nat.{_+_, _≤_, _<_, _^_};
+ghost use lib.ListN.{length};
+ghost use Rattle.program.specs.Days.{GoodDay};
+ghost use Rattle.program.specs.Runs.{buffer-length, ChunkTaken, Stopped, Ran};
+ghost use Rattle.program.specs.declared.run.Ended.the-variants.{WriteFailed, TooLong};
+use crate::feed;
+use crate::feed::Desk;
+use libc::STDERR_FILENO;
+use libc::STDIN_FILENO;
+use libc::STDOUT_FILENO;
+use streams::Got;
+
+// How a run ended: the end of input was read and all that is printed was written, a read failed, a write failed, or the input is too long.
+pub enum Ended {
+    Whole,
+    ReadFailed,
+    WriteFailed,
+    TooLong,
+}
+
+// What a run did: how it ended, how many bytes it read, and how many of those that it printed the system took.
+pub struct Outcome {
+    pub ended: Ended,
+    pub read: u64,
+    pub written: u64,
+}
+
+impl Outcome {
+    // Bytes read before the last read, at the most: so few that no count here wraps, however many lines they are.
+    pub const MOST_READ: u64 = 281_474_976_710_656;
+}
+
+// A chunk taken in: the desk after it, how many of the bytes that it prints the system took, and whether these are all.
+pub struct Taken {
+    pub desk: Desk,
+    pub written: u64,
+    pub whole: bool,
+}
+
+// Takes in a whole chunk, and writes what it prints whenever the buffer has no room for a line more, and at its end.
+fn take_in(d: Desk, chunk: &[u8], out: &mut [u8]) -> Taken
+    requires { ⌜ GoodDay (d .day) ⌝ }
+    requires { ⌜ (d .held .len ≤ 41) × (d .number + length (now chunk) < 2 ^ 63) ⌝ }
+    requires { ⌜ (length (now chunk) ≤ buffer-length) × (length (now out) ≡ buffer-length) ⌝ }
+    ensures { λ r. ⌜ ChunkTaken d (now (chunk .entry)) r ⌝ }
+{
+    let mut desk = d;
+    let mut used: usize = 0;
+    let mut written: u64 = 0;
+    while used < chunk.len() {
+        let f = feed::feed(desk, chunk, used, out, 0);
+        desk = f.desk;
+        used = f.used;
+        let n = f.at;
+        let put = streams::write_all(STDOUT_FILENO, &out[..n]);
+        written += put as u64;
+        if put < n {
+            return Taken {
+                desk,
+                written,
+                whole: false,
+            };
+        }
+    }
+    Taken {
+        desk,
+        written,
+        whole: true,
+    }
+}
+
+// A write has failed, which is said.
+fn unwritten(read: u64, written: u64) -> Outcome
+    ensures { λ r. ⌜ r ≡ record { ended = WriteFailed; read = read; written = written } ⌝ }
+{
+    os::fail(b"oven: cannot write standard output");
+    Outcome {
+        ended: Ended::WriteFailed,
+        read,
+        written,
+    }
+}
+
+// More bytes than are read, which is said.
+fn too_long(read: u64, written: u64) -> Outcome
+    ensures { λ r. ⌜ r ≡ record { ended = TooLong; read = read; written = written } ⌝ }
+{
+    streams::write_all(
+        STDERR_FILENO,
+        b"oven: more than 281474976710656 bytes of input\n",
+    );
+    Outcome {
+        ended: Ended::TooLong,
+        read,
+        written,
+    }
+}
+
+// The end of input: writes what is left to print.
+fn finish(desk: Desk, out: &mut [u8], read: u64, written: u64) -> Outcome
+    requires { ⌜ GoodDay (desk .day) ⌝ }
+    requires { ⌜ (desk .held .len ≤ 41) × (length (now out) ≡ buffer-length) × (written < 2 ^ 63) ⌝ }
+    ensures { λ r. ⌜ Stopped desk read written r ⌝ }
+{
+    let end = feed::finish(desk, out, 0);
+    let put = streams::write_all(STDOUT_FILENO, &out[..end]);
+    let written = written + put as u64;
+    if put < end {
+        return unwritten(read, written);
+    }
+    Outcome {
+        ended: Ended::Whole,
+        read,
+        written,
+    }
+}
+
+// A read gave no bytes: it is the end of input, or it has failed, which is said, and then neither the line that has begun nor the tally is printed.
+fn stop(got: Got, desk: Desk, out: &mut [u8], read: u64, written: u64) -> Outcome
+    requires { ⌜ GoodDay (desk .day) ⌝ }
+    requires { ⌜ (desk .held .len ≤ 41) × (length (now out) ≡ buffer-length) × (written < 2 ^ 63) ⌝ }
+    ensures { λ r. ⌜ Stopped desk read written r ⌝ }
+{
+    let Got::End = got else {
+        os::fail(b"oven: cannot read standard input");
+        return Outcome {
+            ended: Ended::ReadFailed,
+            read,
+            written,
+        };
+    };
+    finish(desk, out, read, written)
+}
+
+// Reads standard input to its end and writes what is printed, for the bytes of each read before the next read. Where a read or a write fails it goes
+// no further.
+pub fn run() -> Outcome
+    ensures { λ r. ⌜ Ran r ⌝ }
+{
+    let mut desk = feed::new_desk();
+    let mut chunk = io::large_buffer();
+    let mut out = io::large_buffer();
+    let mut read: u64 = 0;
+    let mut written: u64 = 0;
+    while read < Outcome::MOST_READ {
+        let got = streams::read_some(STDIN_FILENO, &mut chunk);
+        let Got::Bytes(n) = got else {
+            return stop(got, desk, &mut out, read, written);
+        };
+        let t = take_in(desk, &chunk[..n], &mut out);
+        desk = t.desk;
+        read += n as u64;
+        written += t.written;
+        if !t.whole {
+            return unwritten(read, written);
+        }
+    }
+    too_long(read, written)
+}

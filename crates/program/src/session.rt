@@ -1,0 +1,217 @@
+// What a line does to the day, and what it prints.
+ghost use mathlib.Core.Path.{_≡_};
+ghost use mathlib.Core.Bool.{true};
+ghost use Prim.Native.Nat.{_+_, _*_, _≤_};
+ghost use lib.ListN.{length, take};
+ghost use Rattle.board.specs.Tally.{counted};
+ghost use Rattle.lines.specs.Printing.{printed};
+ghost use Rattle.lines.specs.Session.{refused, count-baked, answer-open, answer-admit, answer-close};
+ghost use Rattle.printing.specs.Lines.{put};
+ghost use Rattle.program.specs.Days.{session-of, GoodDay, line-room, Given, Answered, printed-each, count-grades};
+use crate::admit;
+use crate::close;
+use board::Board;
+use board::Laxity;
+use board::Tally;
+use reading::Reading;
+
+// The board, if one is open, and the tally.
+pub struct Day {
+    pub opened: bool,
+    pub board: Board,
+    pub tally: Tally,
+}
+
+// The day after a line, and where the line's output ends in the buffer.
+pub struct Said {
+    pub day: Day,
+    pub at: usize,
+}
+
+// Prints a line at `at`; where it ends.
+pub(crate) fn say(out: &mut [u8], at: usize, letter: u8, numbers: [u64; 4], count: usize) -> usize
+    requires { ⌜ at + 96 ≤ length (now out) ⌝ }
+    ensures { λ r. ⌜ (r ≡ at + length (printed letter (take count numbers))) × (r ≤ at + 96) × (now (out .exit) ≡ put (now (out .entry)) at (printed letter (take count numbers))) ⌝ }
+{
+    let l = printing::print_line(letter, numbers, count);
+    printing::put_line(out, at, l)
+}
+
+// The tally with one event more: kind 0 admitted, 1 baked, 2 given up.
+fn count(t: Tally, kind: u32, grade: u32) -> Tally
+    ensures { λ r. ⌜ r ≡ counted t kind grade .tally ⌝ }
+{
+    let c = tally::count_event(t, kind, grade);
+    c.tally
+}
+
+// A line that is refused: the day is as it was.
+fn refuse(day: Day, line: u64, number: u8, out: &mut [u8], at: usize) -> Said
+    requires { ⌜ GoodDay day ⌝ }
+    requires { ⌜ at + line-room ≤ length (now out) ⌝ }
+    ensures { λ r. ⌜ Given (refused (session-of day) line number) (now (out .entry)) at r (now (out .exit)) ⌝ }
+{
+    let end = say(out, at, b'R', [line, number as u64, 0, 0], 2);
+    Said { day, at: end }
+}
+
+// A line that opens.
+fn open_line(day: Day, line: u64, depth: u32, out: &mut [u8], at: usize) -> Said
+    requires { ⌜ GoodDay day ⌝ }
+    requires { ⌜ at + line-room ≤ length (now out) ⌝ }
+    ensures { λ r. ⌜ Given (answer-open (session-of day) line depth) (now (out .entry)) at r (now (out .exit)) ⌝ }
+{
+    let o = Board::open(depth);
+    if o.refusal != 0 {
+        return refuse(day, line, o.refusal, out, at);
+    }
+    let end = say(out, at, b'D', [depth as u64, 0, 0, 0], 1);
+    let board = o.board;
+    let tally = day.tally;
+    let next = Day {
+        opened: true,
+        board,
+        tally,
+    };
+    Said { day: next, at: end }
+}
+
+// A line that admits.
+fn admit_line(
+    day: Day,
+    line: u64,
+    ticket: u32,
+    laxity: u32,
+    grade: u32,
+    out: &mut [u8],
+    at: usize,
+) -> Said
+    requires { ⌜ GoodDay day ⌝ }
+    requires { ⌜ day .opened ≡ true ⌝ }
+    requires { ⌜ at + line-room ≤ length (now out) ⌝ }
+    ensures { λ r. ⌜ Given (answer-admit (session-of day) (day .board) line ticket laxity grade) (now (out .entry)) at r (now (out .exit)) ⌝ }
+{
+    let b = day.board;
+    let a = admit::admit_in_limits(b, ticket, Laxity(laxity), grade);
+    if a.refusal != 0 {
+        return refuse(day, line, a.refusal, out, at);
+    }
+    let end = say(out, at, b'A', [ticket as u64, a.last.0 as u64, 0, 0], 2);
+    let board = a.board;
+    let old = day.tally;
+    let tally = count(old, 0, grade);
+    let next = Day {
+        opened: true,
+        board,
+        tally,
+    };
+    Said { day: next, at: end }
+}
+
+// Prints a line for each job given up; where the last one ends.
+fn say_gone(slot: u32, tickets: &[u32], grades: &[u8], out: &mut [u8], at: usize) -> usize
+    requires { ⌜ length (now grades) ≡ length (now tickets) ⌝ }
+    requires { ⌜ at + length (now tickets) * 96 ≤ length (now out) ⌝ }
+    ensures { λ r. ⌜ (r ≡ at + length (printed-each slot (now (tickets .entry)) (now (grades .entry)))) × (r ≤ at + length (now (tickets .entry)) * 96) × (now (out .exit) ≡ put (now (out .entry)) at (printed-each slot (now (tickets .entry)) (now (grades .entry)))) ⌝ }
+{
+    let mut end = at;
+    let mut i: usize = 0;
+    while i < tickets.len() {
+        end = say(
+            out,
+            end,
+            b'G',
+            [slot as u64, tickets[i] as u64, grades[i] as u64, 0],
+            3,
+        );
+        i += 1;
+    }
+    end
+}
+
+// Counts the job baked, if there is one.
+fn count_baked(t: Tally, ticket: u32, grade: u8) -> Tally
+    ensures { λ r. ⌜ r ≡ count-baked ticket grade t ⌝ }
+{
+    if ticket == 0 {
+        return t;
+    }
+    count(t, 1, grade as u32)
+}
+
+// Counts the jobs given up.
+fn count_gone(t: Tally, grades: &[u8]) -> Tally
+    ensures { λ r. ⌜ r ≡ count-grades 2 (now (grades .entry)) t ⌝ }
+{
+    let mut tally = t;
+    let mut i: usize = 0;
+    while i < grades.len() {
+        tally = count(tally, 2, grades[i] as u32);
+        i += 1;
+    }
+    tally
+}
+
+// A line that closes.
+fn close_line(day: Day, line: u64, out: &mut [u8], at: usize) -> Said
+    requires { ⌜ GoodDay day ⌝ }
+    requires { ⌜ day .opened ≡ true ⌝ }
+    requires { ⌜ at + line-room ≤ length (now out) ⌝ }
+    ensures { λ r. ⌜ Given (answer-close (session-of day) (day .board) line) (now (out .entry)) at r (now (out .exit)) ⌝ }
+{
+    let mut tickets = [0u32; Board::PLACES];
+    let mut grades = [0u8; Board::PLACES];
+    let mut slots = [0u32; Board::PLACES];
+    let b = day.board;
+    let c = close::close_sound(b, &mut tickets, &mut grades, &mut slots);
+    if c.refusal != 0 {
+        return refuse(day, line, c.refusal, out, at);
+    }
+    let n = c.expired as usize;
+    let mid = say(
+        out,
+        at,
+        b'B',
+        [
+            b.slot.0 as u64,
+            c.ticket as u64,
+            c.grade as u64,
+            c.expired as u64,
+        ],
+        4,
+    );
+    let end = say_gone(b.slot.0, &tickets[..n], &grades[..n], out, mid);
+    let old = day.tally;
+    let baked = count_baked(old, c.ticket, c.grade);
+    let tally = count_gone(baked, &grades[..n]);
+    let board = c.board;
+    let next = Day {
+        opened: true,
+        board,
+        tally,
+    };
+    Said { day: next, at: end }
+}
+
+// Answers a line, the line end not among its bytes.
+pub(crate) fn answer_line(day: Day, number: u64, line: &[u8], out: &mut [u8], at: usize) -> Said
+    requires { ⌜ GoodDay day ⌝ }
+    requires { ⌜ at + line-room ≤ length (now out) ⌝ }
+    ensures { λ r. ⌜ Answered day number (now (line .entry)) (now (out .entry)) at r (now (out .exit)) ⌝ }
+{
+    let asked = reading::read_line(line, day.opened);
+    match asked {
+        Reading::Open(depth) => open_line(day, number, depth, out, at),
+        Reading::Admit(ticket, laxity, grade) => admit_line(
+            day,
+            number,
+            ticket,
+            laxity,
+            grade,
+            out,
+            at,
+        ),
+        Reading::Close => close_line(day, number, out, at),
+        Reading::Refused(n) => refuse(day, number, n, out, at),
+    }
+}
