@@ -1,5 +1,6 @@
 // The board: its types and its four limits. What each call answers and leaves behind is defined in specs/.
 ghost use mathlib.Core.Path.{_≡_};
+ghost use Prim.Native.Nat.{_^_, min};
 ghost use Rattle.board.specs.Limits.{longest-laxity, most-in-slot, places-held, last-slot, deepest};
 ghost use Rattle.board.specs.Open.{opened};
 
@@ -45,6 +46,16 @@ impl Board {
 
     // Greatest depth.
     pub const DEEPEST: u32 = 3;
+
+    // The number of grades of a depth: 2^D. A depth above the greatest counts as the greatest.
+    pub fn grades(depth: u8) -> u32
+        ensures { λ r. ⌜ r ≡ 2 ^ min depth deepest ⌝ }
+    {
+        if (depth as u32) < Board::DEEPEST {
+            return 1u32 << depth;
+        }
+        1u32 << Board::DEEPEST
+    }
 
     // A new board of this depth; refusal 1 and a board all zero where the depth is above 3.
     pub fn open(depth: u32) -> Opened

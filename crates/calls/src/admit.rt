@@ -1,7 +1,7 @@
 // Admitting a job: 01's rows 2 to 7 in order, then the job in the first free place.
 ghost use mathlib.Core.Path.{_≡_};
 ghost use mathlib.Core.Bool.{_&&_};
-ghost use Prim.Native.Nat.{_≤_, _^_};
+ghost use Prim.Native.Nat.{_≤_};
 ghost use lib.Dec.{leb};
 ghost use Rattle.board.specs.Limits.{longest-laxity, places-held, deepest};
 ghost use Rattle.board.specs.Rows.{first-given, admit-rows};
@@ -29,14 +29,6 @@ fn in_slot(b: Board) -> usize
     b.count
 }
 
-// The number of grades of a depth.
-pub(crate) fn grades(depth: u8) -> u32
-    requires { ⌜ depth ≤ deepest ⌝ }
-    ensures { λ r. ⌜ r ≡ 2 ^ depth ⌝ }
-{
-    1u32 << depth
-}
-
 // Whether a job may wait so long: 1 to 32 slots.
 fn laxity_allowed(laxity: Laxity) -> bool
     ensures { λ r. ⌜ r ≡ (leb 1 (laxity .0) && leb (laxity .0) longest-laxity) ⌝ }
@@ -58,7 +50,7 @@ fn first_row(
     ensures { λ r. ⌜ r ≡ first-given (admit-rows (slot .0) highest taken depth ticket (laxity .0) grade) ⌝ }
 {
     let allowed = laxity_allowed(laxity);
-    let most = grades(depth);
+    let most = Board::grades(depth);
     if slot.0 == Board::LAST_SLOT + 1 {
         return 3;
     }

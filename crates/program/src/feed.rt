@@ -7,7 +7,6 @@ ghost use Rattle.lines.specs.Session.{printed-tally};
 ghost use Rattle.lines.specs.Machine.{printed-at-end};
 ghost use Rattle.program.specs.Days.{GoodDay, line-room, Given};
 ghost use Rattle.program.specs.Machines.{NewDesk, held-bytes, machine-of, used-bytes, LineEnds, hold-all, TakenIn, GoesOn, end-room, last-answer, PutAt};
-use crate::admit;
 use crate::session;
 use crate::session::Day;
 use crate::session::Said;
@@ -191,7 +190,7 @@ pub(crate) fn finish(desk: Desk, out: &mut [u8], at: usize) -> usize
     if !day.opened {
         return said.at;
     }
-    let grades = admit::grades(day.board.depth) as usize;
+    let grades = Board::grades(day.board.depth) as usize;
     let tally = day.tally;
     say_tally(tally, grades, out, said.at)
 }

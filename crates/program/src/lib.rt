@@ -1,13 +1,17 @@
 // The program as one call, for a `main` in C: a program in Rattle has no exit status of its own.
 ghost use Rattle.program.specs.Status.{Reported};
-use calls::run::Ended;
+use run::Ended;
+
+pub mod feed;
+pub mod run;
+pub mod session;
 
 // Reads a day on standard input and writes its answers on standard output; the exit status.
 #[no_mangle]
 pub extern "C" fn oven_run() -> u8
     ensures { λ r. ⌜ Reported r ⌝ }
 {
-    let outcome = calls::run::run();
+    let outcome = run::run();
     let ended = outcome.ended;
     match ended {
         Ended::Whole => 0,

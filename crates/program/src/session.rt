@@ -8,11 +8,11 @@ ghost use Rattle.lines.specs.Printing.{printed};
 ghost use Rattle.lines.specs.Session.{refused, count-baked, answer-open, answer-admit, answer-close};
 ghost use Rattle.printing.specs.Lines.{put};
 ghost use Rattle.program.specs.Days.{session-of, GoodDay, line-room, Given, Answered, printed-each, count-grades};
-use crate::admit;
-use crate::close;
 use board::Board;
 use board::Laxity;
 use board::Tally;
+use calls::admit;
+use calls::close;
 use reading::Reading;
 
 // The board, if one is open, and the tally.
@@ -163,7 +163,7 @@ fn close_line(day: Day, line: u64, out: &mut [u8], at: usize) -> Said
     let mut grades = [0u8; Board::PLACES];
     let mut slots = [0u32; Board::PLACES];
     let b = day.board;
-    let c = close::close_sound(b, &mut tickets, &mut grades, &mut slots);
+    let c = close::close_in_limits(b, &mut tickets, &mut grades, &mut slots);
     if c.refusal != 0 {
         return refuse(day, line, c.refusal, out, at);
     }

@@ -5,6 +5,7 @@ use borrow.Author.Needs.{needs}
 use borrow.Author.Tests.{le-leb, lt-leb, eq-eqb, ne-eqb, not-true, not-false}
 use Rattle.board.specs.Limits.{most-in-slot, last-slot}
 use Rattle.board.specs.Rows.{_if_, first-given, admit-rows}
+use Rattle.board.proofs.Grades.{grades-of}
 use Rattle.calls.proofs.admit.first_row.Statement.{statement}
 use Rattle.calls.proofs.admit.first_row.Tie as tie
 
@@ -54,7 +55,7 @@ returns-4 c =
       lt-leb (a .ticket) (a .highest) (omega arith),
       ← s .laxity-allowed .ensures,
       not-false (s .laxity-allowed .result) (c .before .if3 .left),
-      le-leb (2 ^ a .depth) (a .grade) (omega arith),
+      le-leb (2 ^ a .depth) (a .grade) (omega (arith, grades-of (a .depth) (s .before .pre))),
     )
 
 returns-5 : tie.Need-returns-5
@@ -67,7 +68,7 @@ returns-5 c =
       lt-leb (a .ticket) (a .highest) (omega arith),
       ← s .laxity-allowed .ensures,
       not-false (s .laxity-allowed .result) (c .before .before .if3 .left),
-      lt-leb (2 ^ a .depth) (a .grade) (omega arith),
+      lt-leb (2 ^ a .depth) (a .grade) (omega (arith, grades-of (a .depth) (s .before .pre))),
       le-leb most-in-slot (a .taken) (omega arith),
     )
 
@@ -81,7 +82,7 @@ returns-6 c =
       lt-leb (a .ticket) (a .highest) (omega arith),
       ← s .laxity-allowed .ensures,
       not-false (s .laxity-allowed .result) (c .before .before .if3 .left),
-      lt-leb (2 ^ a .depth) (a .grade) (omega arith),
+      lt-leb (2 ^ a .depth) (a .grade) (omega (arith, grades-of (a .depth) (s .before .pre))),
       lt-leb most-in-slot (a .taken) (omega arith),
     )
 
