@@ -1,1 +1,9 @@
+pub mod Seeing
+pub mod Start
+pub mod Walk
+pub mod OnlySeen
+pub mod Excess
+pub mod BestLaxity
+pub mod NextBit
+pub mod Earlier
 pub mod OnSound

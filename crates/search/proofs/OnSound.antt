@@ -1,11 +1,36 @@
--- stub
-use mathlib.Core.Path.{_≡_}
+-- Of a sound board every job is seen, so the search bakes what the slot bakes.
+use mathlib.Core.Path.{_≡_, ap}
 use mathlib.Core.Bool.{true}
+use mathlib.Core.List.{Memᴰ·map}
+use native.Mathlib.Omega.{arith}
+use Rattle.lists.proofs.Members.{select-all}
+use Rattle.lists.proofs.Rising.{rise-above}
+use Rattle.rule.specs.Job.{Job, laxity}
+use Rattle.rule.specs.Bake.{baked}
 use Rattle.board.specs.declared.Board.{Board}
+use Rattle.board.specs.Held.{held}
 use Rattle.board.specs.Sound.{sound}
 use Rattle.board.specs.Close.{bakes}
-use Rattle.search.specs.Seen.{bakes-seen}
+use Rattle.board.proofs.Soundness.Apart.{facts}
+use Rattle.search.specs.Seen.{seen-job, seen, bakes-seen}
+use Rattle.search.proofs.Seeing.{facts-seen}
 
-module _ (cheat : (b : Board) → sound b ≡ true → bakes-seen b ≡ bakes b) where
-  pub bakes-on-sound : (b : Board) → sound b ≡ true → bakes-seen b ≡ bakes b
-  bakes-on-sound = cheat
+pub sees-all : (b : Board) → sound b ≡ true → seen b ≡ held b
+unfolding seen laxity
+sees-all b s =
+    let f = facts b s in
+    select-all (seen-job (b .slot .0) (b .depth)) (held b)
+    (λ r m.
+    let j = f .each r m in
+    facts-seen _ _ r
+    (record {
+      shallow = f .shallow;
+      known = rise-above 0 (f .tickets-rise) (Memᴰ·map (λ (q : Job). q .ticket) m);
+      in-date = j .in-date;
+      short = omega arith;
+      graded = j .graded;
+    }))
+
+pub bakes-sound : (b : Board) → sound b ≡ true → bakes-seen b ≡ bakes b
+unfolding bakes-seen bakes
+bakes-sound b s = ap (baked (b .slot .0) (b .depth)) (sees-all b s)

@@ -1,7 +1,27 @@
--- stub
-use mathlib.Core.Option.{Option, none}
-use Rattle.rule.specs.Job.{Job}
+-- What the search sees of a board, sound or not, and what the slot bakes of that.
+use mathlib.Core.Bool.{Bool}
+use mathlib.Core.List.{List, [], _∷_}
+use mathlib.Core.Option.{Option}
+use Prim.Native.Nat.{ℕ, _^_}
+use lib.Dec.{leb, ltb}
+use Rattle.lists.specs.Select.{select, every}
+use Rattle.rule.specs.Job.{Job, laxity, in-date}
+use Rattle.rule.specs.Bake.{baked}
 use Rattle.board.specs.declared.Board.{Board}
+use Rattle.board.specs.Limits.{longest-laxity, deepest}
+use Rattle.board.specs.Held.{held}
 
+-- A job that could stand on a sound board of depth d in the slot `now`: 'depth is at most 3', 'Tickets are 32-bit numbers, 1 to 4,294,967,295',
+-- 'present slot ≤ last slot', 'Longest wait 32', 'grades are below 2^D'.
+unfoldable pub seen-job : (now d : ℕ) → Job → Bool
+seen-job now d r =
+    every (λ (passed : Bool). passed)
+    (leb d deepest ∷ leb 1 (r .ticket) ∷ in-date now r ∷ leb (laxity now r) longest-laxity ∷ ltb (r .grade) (2 ^ d) ∷ [])
+
+-- The board's jobs that are seen; of a sound board all. Another depth has none.
+unfoldable pub seen : Board → List Job
+seen b = select (seen-job (b .slot .0) (b .depth)) (held b)
+
+-- The job that the slot bakes of those; of a sound board, the job that it bakes.
 unfoldable pub bakes-seen : Board → Option Job
-bakes-seen b = none
+bakes-seen b = baked (b .slot .0) (b .depth) (seen b)

@@ -1,13 +1,50 @@
--- stub
-use mathlib.Core.Path.{refl}
+-- `search::bake`: the grade that the descent ends at has the no-regret set, and the soonest job of it is baked. Assumes nothing.
+use mathlib.Core.Path.{sym, ap, _∙_}
+use native.Mathlib.Omega.{arith}
+use borrow.Author.Needs.{needs}
 use Rattle.rule.specs.Bake.{ticket-of, grade-of}
-use Rattle.search.specs.Seen.{bakes-seen}
+use Rattle.board.specs.Limits.{deepest}
+use Rattle.search.proofs.NextBit.{bakes-found}
+use Rattle.search.proofs.OnlySeen.{bakes-of, bakes-none}
 use Rattle.search.proofs.bake.Statement.{statement}
 use Rattle.search.proofs.bake.Tie as tie
 
+cast-if1 : tie.Need-cast-if1
+cast-if1 c = search needs
+
 returns : tie.Need-returns
-unfolding bakes-seen ticket-of grade-of
-returns c = (refl, refl)
+unfolding deepest ticket-of grade-of
+returns c = let e = bakes-none _ (c .if1 .taken) in (sym (ap ticket-of e), sym (ap grade-of e))
+
+only-seen-requires : tie.Need-only-seen-requires
+unfolding deepest
+only-seen-requires c κs = omega arith
+
+descend-requires : tie.Need-descend-requires
+descend-requires c κs = (c .only-seen .ensures .all-seen, omega arith)
+
+tight-requires : tie.Need-tight-requires
+tight-requires c κs = (c .before .only-seen .ensures .all-seen, omega arith)
+
+soonest-requires : tie.Need-soonest-requires
+soonest-requires c κs = (c .before .before .only-seen .ensures .all-seen, omega arith)
+
+returns-2 : tie.Need-returns-2
+returns-2 c =
+    let t = c .before .tight in
+    let d = c .before .before .descend in
+    let s = c .before .before .before .only-seen in
+    let e = bakes-found _ _ _ (d .result) (t .result .0) (d .ensures .0) (t .ensures) ∙ bakes-of _ (s .result) (s .ensures) in
+    (c .soonest .ensures .0 ∙ ap ticket-of e, c .soonest .ensures .1 ∙ ap grade-of e)
 
 pub bake-spec : {M : Type 1} → statement M
-bake-spec = tie.close (tie.spec returns)
+bake-spec =
+    tie.close
+    (tie.spec
+    cast-if1
+    returns
+    only-seen-requires
+    descend-requires
+    tight-requires
+    soonest-requires
+    returns-2)

@@ -1,0 +1,32 @@
+-- `search::seen::is_seen`: a test for each fact. Assumes nothing.
+use mathlib.Core.Path.{_∙_}
+use native.Mathlib.Omega.{arith}
+use borrow.Author.Needs.{needs}
+use Rattle.rule.specs.Job.{laxity}
+use Rattle.board.specs.Limits.{longest-laxity}
+use Rattle.board.specs.Held.{job-in}
+use Rattle.search.proofs.Seeing.{JobSeen, unseen, seen-by-grade}
+use Rattle.search.proofs.seen.is_seen.Statement.{statement}
+use Rattle.search.proofs.seen.is_seen.Tie as tie
+
+returns : tie.Need-returns
+unfolding job-in
+returns c = unseen _ _ _ (λ s. omega (arith, s .known))
+
+returns-2 : tie.Need-returns-2
+unfolding job-in
+returns-2 c = unseen _ _ _ (λ s. omega (arith, s .in-date))
+
+returns-3 : tie.Need-returns-3
+unfolding job-in laxity longest-laxity
+returns-3 c = unseen _ _ _ (λ s. omega (arith, s .short))
+
+starts-with-requires : tie.Need-starts-with-requires
+starts-with-requires c κs = search needs
+
+returns-4 : tie.Need-returns-4
+unfolding job-in laxity longest-laxity
+returns-4 c = c .starts-with .ensures ∙ seen-by-grade _ _ _ (omega arith) (omega arith) (omega arith) (omega arith)
+
+pub is-seen-spec : {M : Type 1} → statement M
+is-seen-spec = tie.close (tie.spec returns returns-2 returns-3 starts-with-requires returns-4)

@@ -1,0 +1,45 @@
+// The search by bits: 'The search goes down one bit at a time until D bits are fixed.'
+ghost use mathlib.Core.Path.{_≡_};
+ghost use mathlib.Core.Bool.{not};
+ghost use mathlib.Core.List.{[], _∷_, _++_};
+ghost use Prim.Native.Nat.{_+_, _-_, _*_, _^_, _≤_, _<_};
+ghost use Rattle.rule.specs.Grade.{bits};
+ghost use Rattle.rule.specs.Descent.{next-bit, descend as descent};
+ghost use Rattle.board.specs.Held.{held};
+ghost use Rattle.search.specs.Inside.{AllSeen};
+use crate::tight;
+use crate::within;
+use board::Board;
+
+// Whether a job of the tight set of the jobs whose grade starts so has 0 for its next bit.
+fn has_zero(b: Board, start: u8, left: u8) -> bool
+    requires { ⌜ AllSeen b × ((start + 1) * 2 ^ left ≤ 2 ^ b .depth) × (1 ≤ left) ⌝ }
+    ensures { λ r. ⌜ r ≡ not (next-bit (b .slot .0) (b .depth) (held b) (bits (b .depth - left) start)) ⌝ }
+{
+    let l = tight::tight(b, start, left);
+    let n = within::count_within(b, start * 2, left - 1, l);
+    0 < n
+}
+
+// The start with its next bit: 0 where a job of the tight set has it, otherwise 1.
+fn next_start(b: Board, start: u8, left: u8) -> u8
+    requires { ⌜ AllSeen b × ((start + 1) * 2 ^ left ≤ 2 ^ b .depth) × (1 ≤ left) ⌝ }
+    ensures { λ r. ⌜ (bits (b .depth - (left - 1)) r ≡ bits (b .depth - left) start ++ (next-bit (b .slot .0) (b .depth) (held b) (bits (b .depth - left) start) ∷ [])) × ((r + 1) * 2 ^ (left - 1) ≤ 2 ^ b .depth) ⌝ }
+{
+    if has_zero(b, start, left) {
+        return start * 2;
+    }
+    start * 2 + 1
+}
+
+// The grade that the search from a start ends at: it goes on with the next bit, and one bit fewer left.
+pub(crate) fn descend(b: Board, start: u8, left: u8) -> u8
+    requires { ⌜ AllSeen b × ((start + 1) * 2 ^ left ≤ 2 ^ b .depth) ⌝ }
+    ensures { λ r. ⌜ (bits (b .depth) r ≡ descent (b .slot .0) (b .depth) (held b) left (bits (b .depth - left) start)) × (r < 2 ^ b .depth) ⌝ }
+{
+    if left == 0 {
+        return start;
+    }
+    let next = next_start(b, start, left);
+    descend(b, next, left - 1)
+}
