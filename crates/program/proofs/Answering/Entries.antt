@@ -9,7 +9,7 @@ use lib.ListN.{length, getD, take, drop, length-append, length-map, drop-of-leng
 use lib.Seq.{drop-cons, take-at}
 use Rattle.lists.proofs.Counting.{count-select, count-length}
 use Rattle.rule.specs.Job.{Job}
-use Rattle.rule.specs.Bake.{expires}
+use Rattle.rule.specs.Bake.{expires, ticket-of}
 use Rattle.board.specs.declared.Board.{Board}
 use Rattle.board.specs.declared.Closed.{Closed}
 use Rattle.board.specs.declared.Tally.{Tally}
@@ -62,7 +62,7 @@ pub few-given-up : (b : Board) → sound b ≡ true → length (given-up b) ≤ 
 unfolding given-up given-up-with places-held
 few-given-up b s =
     let f = facts b s in
-    let p = expires (b .slot .0) (bakes b) in
+    let p = expires (b .slot .0) (ticket-of (bakes b)) in
     omega (arith, count-select p (held b), count-length p (held b), held-count b (omega (arith, f .full, f .counted)), f .counted)
 
 -- an answer that is no refusal says how many

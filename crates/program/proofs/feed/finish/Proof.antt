@@ -2,7 +2,7 @@
 use mathlib.Core.Bool.{true}
 use mathlib.Core.List.{_++_}
 use mathlib.Core.Path.{_≡_, sym, ap, _∙_}
-use Prim.Native.Nat.{ℕ, _+_, _≤_}
+use Prim.Native.Nat.{ℕ, _+_, _≤_, _^_}
 use native.Mathlib.Omega.{arith}
 use borrow.Author.Needs.{needs}
 use borrow.Author.Tests.{not-true, not-false}
@@ -17,6 +17,7 @@ use Rattle.printing.specs.Lines.{put}
 use Rattle.program.specs.Days.{GoodDay, line-room}
 use Rattle.program.specs.Machines.{machine-of, end-room, last-answer}
 use Rattle.program.proofs.Answering.Pieces.{all-left, fewer-left}
+use Rattle.board.proofs.Grades.{grades-of}
 use Rattle.program.proofs.Feeding.Ending.{end-closed, end-open}
 use Rattle.program.proofs.feed.finish.Statement.{statement}
 use Rattle.program.proofs.feed.finish.Tie as tie
@@ -52,26 +53,29 @@ at-last c = c .before .before .before .before .before
 opened : (c : tie.Else1) → at-last c .last-line .result .day .opened ≡ true
 opened c = not-false (at-last c .last-line .result .day .opened) (c .if1 .left)
 
-shallow : (c : tie.Else1) → at-last c .last-line .result .day .board .depth ≤ 3
-unfolding GoodDay deepest
+shallow : (c : tie.Else1) → at-last c .last-line .result .day .board .depth ≤ deepest
+unfolding GoodDay
 shallow c =
     let l = at-last c .last-line in
     facts (l .result .day .board) (l .ensures .good (opened c)) .shallow
 
 grades-requires : tie.Need-grades-requires
-unfolding deepest
-grades-requires c κs = shallow c
+grades-requires c κs = search needs
+
+-- as many grades as the board's depth has
+grades : (g : tie.After-grades) → g .grades .result ≡ 2 ^ (at-last (g .before) .last-line .result .day .board .depth)
+grades g = g .grades .ensures ∙ grades-of _ (shallow (g .before))
 
 cast-grades : tie.Need-cast-grades
 cast-grades c = search needs
 
 say-tally-requires : tie.Need-say-tally-requires
-unfolding line-room end-room
+unfolding line-room end-room deepest
 say-tally-requires c κs =
     let g = c .before .before in
     let r = at-last (g .before) in
     let s = r .before .before .before in
-    let few : g .grades .result ≤ 8 = omega (arith, g .grades .ensures, pow-mono (shallow (g .before))) in
+    let few : g .grades .result ≤ 8 = omega (arith, grades g, pow-mono (shallow (g .before))) in
     (few, omega (arith, r .last-line .ensures .within, r .last-line .kept .1 .0, s .pre .1 .1))
 
 same-length-2 : tie.Need-same-length-2
@@ -91,7 +95,7 @@ returns-2 c =
     let first = last-answer m .output in
     let second = printed-tally (g .grades .result) 0 (d .tally) in
     let e : printed-at-end m ≡ first ++ second =
-    end-open m d (l .session) (opened (g .before)) ∙ ap (λ (n : ℕ). first ++ printed-tally n 0 (d .tally)) (sym (g .grades .ensures))
+    end-open m d (l .session) (opened (g .before)) ∙ ap (λ (n : ℕ). first ++ printed-tally n 0 (d .tally)) (sym (grades g))
     in
     let left =
     fewer-left first second (a .out .now) (a .at) (r .last-line .last .1 .0) (r .last-line .result .at)

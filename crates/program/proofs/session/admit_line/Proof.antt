@@ -1,14 +1,22 @@
 -- `program::session::admit_line`: refused, or the board with the job and one event more. Assumes nothing.
+use mathlib.Core.Path.{_≡_, _∙_}
 use borrow.Author.Needs.{needs}
+use Rattle.board.specs.Admit.{admitted}
 use Rattle.lines.specs.Bytes.{letter-A}
+use Rattle.calls.proofs.Admitting.OnSound.{admitting-on-sound}
 use Rattle.program.specs.Days.{GoodDay, line-room}
 use Rattle.program.proofs.Answering.Answers.{given-as, admit-refused, admit-given}
 use Rattle.program.proofs.session.admit_line.Statement.{statement}
 use Rattle.program.proofs.session.admit_line.Tie as tie
 
-admit-sound-requires : tie.Need-admit-sound-requires
+-- on the open board, which is sound, the call is 01's
+answered : (o : tie.After-admit-in-limits) → let a = o .before .before .before .args in
+    o .admit-in-limits .result ≡ admitted (a .day .board) (a .ticket) (a .laxity) (a .grade)
 unfolding GoodDay
-admit-sound-requires c κs = let p = c .before .before .pre in p .0 (p .1 .0)
+answered o = let p = o .before .before .before .pre in o .admit-in-limits .ensures ∙ admitting-on-sound _ _ _ _ (p .0 (p .1 .0))
+
+admit-in-limits-requires : tie.Need-admit-in-limits-requires
+admit-in-limits-requires c κs = search needs
 
 refuse-requires : tie.Need-refuse-requires
 refuse-requires c κs = search needs
@@ -20,7 +28,7 @@ returns : tie.Need-returns
 returns c =
     let t = c .before .before .before .before in
     let o = t .before .before in
-    given-as (admit-refused _ _ _ _ _ (o .admit-sound .result) (o .admit-sound .ensures) (t .if1 .taken)) (c .before .before .refuse .ensures)
+    given-as (admit-refused _ _ _ _ _ (o .admit-in-limits .result) (answered o) (t .if1 .taken)) (c .before .before .refuse .ensures)
 
 cast-t22 : tie.Need-cast-t22
 cast-t22 c = search needs
@@ -42,13 +50,13 @@ returns-2 c =
     let e = s .before .before .before in
     let o = e .before .before in
     let p = o .before .before .before .pre in
-    admit-given _ _ _ _ _ (o .admit-sound .result) (o .admit-sound .ensures) _ (p .0 (p .1 .0)) (e .if1 .left) (s .say .ensures) (c .count .ensures)
+    admit-given _ _ _ _ _ (o .admit-in-limits .result) (answered o) _ (p .0 (p .1 .0)) (e .if1 .left) (s .say .ensures) (c .count .ensures)
 
 pub admit-line-spec : {M : Type 1} → statement M
 admit-line-spec =
     tie.close
     (tie.spec
-    admit-sound-requires
+    admit-in-limits-requires
     refuse-requires
     same-length
     returns

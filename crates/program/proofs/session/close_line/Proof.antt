@@ -10,6 +10,7 @@ use Rattle.board.specs.Sound.{sound}
 use Rattle.board.specs.Close.{closed}
 use Rattle.board.specs.Lent.{entries}
 use Rattle.lines.specs.Bytes.{letter-B}
+use Rattle.calls.proofs.Closing.OnSound.{meets-on-sound}
 use Rattle.program.specs.Days.{GoodDay, line-room, count-grades}
 use Rattle.program.proofs.Answering.Answers.{given-as}
 use Rattle.program.proofs.Answering.Entries.{Entered, entered}
@@ -18,10 +19,10 @@ use Rattle.program.proofs.session.close_line.Statement.{statement}
 use Rattle.program.proofs.session.close_line.Tie as tie
 
 -- places further back: the entry, the closing, and where the closing is known to be no refusal
-abbrev entry : tie.After-close-sound → tie.Start
+abbrev entry : tie.After-close-in-limits → tie.Start
 entry k = k .before .before .before .before .before .before
 
-abbrev closing : tie.Else1 → tie.After-close-sound
+abbrev closing : tie.Else1 → tie.After-close-in-limits
 closing e = e .before .before .before .before .before
 
 abbrev going : tie.After-slice-known3 → tie.Else1
@@ -31,29 +32,30 @@ board-sound : (s : tie.Start) → sound (s .args .day .board) ≡ true
 unfolding GoodDay
 board-sound s = s .pre .0 (s .pre .1 .0)
 
--- the lists that are lent have an entry for every place
-closed-full : (k : tie.After-close-sound) → k .close-sound .result ≡ closed (entry k .args .day .board) places-held
+-- the lists that are lent have an entry for every place, and on the open board, which is sound, the call is 01's
+closed-full : (k : tie.After-close-in-limits) → k .close-in-limits .result ≡ closed (entry k .args .day .board) places-held
 unfolding entries places-held
-closed-full k = k .close-sound .ensures .0
+closed-full k = let e = k .close-in-limits .ensures in meets-on-sound _ _ _ _ (board-sound (entry k)) (record { answer = e .0; lent = e .1 }) .answer
 
 listed : (d : tie.After-slice-known3) → let k = closing (going d) in
-    Entered (entry k .args .day .board) (k .close-sound .result .expired) (k .close-sound .last .1 .0) (k .close-sound .last .1 .1 .0)
+    Entered (entry k .args .day .board) (k .close-in-limits .result .expired) (k .close-in-limits .last .1 .0) (k .close-in-limits .last .1 .1 .0)
 listed d =
     let e = going d in
     let k = closing e in
-    entered _ _ _ _ (k .close-sound .result) (board-sound (entry k)) (k .close-sound .ensures .0) (e .if1 .left) (k .close-sound .ensures .1 .1)
+    let m = meets-on-sound _ _ _ _ (board-sound (entry k)) (record { answer = k .close-in-limits .ensures .0; lent = k .close-in-limits .ensures .1 }) in
+    entered _ _ _ _ (k .close-in-limits .result) (board-sound (entry k)) (m .answer) (e .if1 .left) (m .order)
 
-slice-aggregate-close-sound : tie.Need-slice-aggregate-close-sound
-slice-aggregate-close-sound c = search needs
+slice-aggregate-close-in-limits : tie.Need-slice-aggregate-close-in-limits
+slice-aggregate-close-in-limits c = search needs
 
-slice-aggregate-close-sound-2 : tie.Need-slice-aggregate-close-sound-2
-slice-aggregate-close-sound-2 c = search needs
+slice-aggregate-close-in-limits-2 : tie.Need-slice-aggregate-close-in-limits-2
+slice-aggregate-close-in-limits-2 c = search needs
 
-slice-aggregate-close-sound-3 : tie.Need-slice-aggregate-close-sound-3
-slice-aggregate-close-sound-3 c = search needs
+slice-aggregate-close-in-limits-3 : tie.Need-slice-aggregate-close-in-limits-3
+slice-aggregate-close-in-limits-3 c = search needs
 
-close-sound-requires : tie.Need-close-sound-requires
-close-sound-requires c κs = board-sound (c .before .before .before .before .before)
+close-in-limits-requires : tie.Need-close-in-limits-requires
+close-in-limits-requires c κs = search needs
 
 refuse-requires : tie.Need-refuse-requires
 refuse-requires c κs = search needs
@@ -65,7 +67,7 @@ returns : tie.Need-returns
 returns c =
     let t = c .before .before .before .before in
     let k = t .before .before .before .before .before in
-    given-as (close-refused _ _ (k .close-sound .result) (closed-full k) (t .if1 .taken)) (c .before .before .refuse .ensures)
+    given-as (close-refused _ _ (k .close-in-limits .result) (closed-full k) (t .if1 .taken)) (c .before .before .refuse .ensures)
 
 cast-n : tie.Need-cast-n
 cast-n c = search needs
@@ -133,8 +135,8 @@ returns-2 c =
     let k = closing (going d) in
     let s = entry k in
     let n = listed d in
-    let grades = take (k .close-sound .result .expired) (k .close-sound .last .1 .1 .0) in
-    close-given _ _ (k .close-sound .result) (closed-full k) _ _ _ (board-sound s) (going d .if1 .left) (omega (arith, s .pre .1 .1)) (n .tickets) (n .grades)
+    let grades = take (k .close-in-limits .result .expired) (k .close-in-limits .last .1 .1 .0) in
+    close-given _ _ (k .close-in-limits .result) (closed-full k) _ _ _ (board-sound s) (going d .if1 .left) (omega (arith, s .pre .1 .1)) (n .tickets) (n .grades)
     (d .before .before .say .ensures)
     (g .say-gone .ensures)
     (c .before .count-gone .ensures ∙ ap (count-grades 2 grades) (y .count-baked .ensures))
@@ -143,10 +145,10 @@ pub close-line-spec : {M : Type 1} → statement M
 close-line-spec =
     tie.close
     (tie.spec
-    slice-aggregate-close-sound
-    slice-aggregate-close-sound-2
-    slice-aggregate-close-sound-3
-    close-sound-requires
+    slice-aggregate-close-in-limits
+    slice-aggregate-close-in-limits-2
+    slice-aggregate-close-in-limits-3
+    close-in-limits-requires
     refuse-requires
     same-length
     returns
