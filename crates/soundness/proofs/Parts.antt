@@ -8,6 +8,7 @@ use lib.ListN.{length}
 use borrow.Author.Tests.{leb-true, le-leb}
 use Rattle.lists.proofs.Tests.{cmp, and-left, and-right, and-intro, same-test}
 use Rattle.lists.proofs.Joined.{apart, together}
+use Rattle.lists.proofs.Parts.{never-fall-from}
 use Rattle.lists.proofs.Spread.{sharing}
 use Rattle.rule.specs.Job.{Job}
 use Rattle.board.specs.declared.Board.{Board}
@@ -33,11 +34,11 @@ module _ (b : Board) where
   -- no nine jobs share an admitted slot
   few-share : Well b nothing-seen (used b) → (r : Job) → admitted-in (r .admitted) (held b) ≤ most-in-slot
   unfolding nothing-seen held
-  few-share w r = go (cmp 1 (r .admitted))
+  few-share w r = go (cmp (nothing-seen .admitted .0) (r .admitted))
     where
-      go : (1 ≤ r .admitted) ⊎ (r .admitted < 1) → admitted-in (r .admitted) (held b) ≤ most-in-slot
+      go : (nothing-seen .admitted .0 ≤ r .admitted) ⊎ (r .admitted < nothing-seen .admitted .0) → admitted-in (r .admitted) (held b) ≤ most-in-slot
       go (inl h) = omega (arith, w .few (r .admitted) h)
-      go (inr h) = omega (arith, none-before (r .admitted) 1 (held b) (w .slots-in-order) h)
+      go (inr h) = omega (arith, none-before (r .admitted) (nothing-seen .admitted .0) (held b) (w .slots-in-order) h)
 
   tested-sound : length (b .places) ≡ places-held → tested b ≡ true → sound b ≡ true
   unfolding in-limits limit-tests nothing-seen held
@@ -55,7 +56,7 @@ module _ (b : Board) where
         counted = omega (arith, leb-true);
         blank-past = blanks b (and-right walked _ q);
         tickets-rise = w .tickets-rise;
-        slots-in-order = w .slots-in-order;
+        slots-in-order = never-fall-from 1 (nothing-seen .admitted .0) _ (omega arith) (w .slots-in-order);
         each = w .each;
         intake = λ r m. few-share w r;
       }

@@ -45,9 +45,10 @@ module _ (b : Board) where
   pub well-facts : (s : Seen) (l : List Place) → s .sharing ≤ most-in-slot → all-well b s l ≡ true → Well b s l
   unfolding all-well seen-with well-with next-tests is-short rise never-fall how-many job-in
   well-facts s [] m h =
+      let passed = and-right (s .well) _ h in
       record {
         so-far = still-well s [] h;
-        last-known = leb-true (s .ticket) (b .highest) (and-right (s .well) _ h);
+        last-known = omega (arith, leb-true);
         tickets-rise = refl;
         slots-in-order = refl;
         each = λ r i. absurd (List·Memᴰ·not-nil i);
@@ -71,7 +72,7 @@ module _ (b : Board) where
 
   pub facts-well : (s : Seen) (l : List Place) → Well b s l → all-well b s l ≡ true
   unfolding all-well seen-with well-with next-tests is-short rise never-fall how-many job-in
-  facts-well s [] f = and-intro _ _ (f .so-far) (le-leb (s .ticket) (b .highest) (f .last-known))
+  facts-well s [] f = and-intro _ _ (f .so-far) (omega (arith, le-leb))
   facts-well s (x ∷ l) f =
       let rises : s .ticket < x .ticket = rise-above (s .ticket) {l = tickets (x ∷ l)} (f .tickets-rise) (List·Memᴰ·head refl) in
       let forth : s .admitted .0 ≤ x .admitted .0 = never-fall-above (s .admitted .0) {l = slots (x ∷ l)} (f .slots-in-order) (List·Memᴰ·head refl) in

@@ -63,6 +63,7 @@ loop-again c =
     )
 
 returns : tie.Need-returns Inv-loop μ-loop
+unfolding all-well
 returns c =
     let l = c .before .before .before in
     walk-done (l .before .before .before .args .t1) (l .loop .s) (l .loop .i) (omega arith) ∙ l .loop .inv .2

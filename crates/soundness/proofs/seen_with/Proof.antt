@@ -14,9 +14,7 @@ is-short-requires c κs = search needs
 
 returns : tie.Need-returns
 unfolding seen-with well-with next-tests most-in-slot
-returns c =
-    let a = c .before .before .before .before .before .before .before .before .before .before .before .before .before .args in
-    cc (joined-every (λ t. t) (next-tests (a .slot .0) (a .grades) (a .s) (a .x)))
+returns c = rw (← joined-every (λ t. t)) (cc)
 
 pub seen-with-spec : {M : Type 1} → statement M
 seen-with-spec = tie.close (tie.spec sharing-with-requires is-short-requires returns)
