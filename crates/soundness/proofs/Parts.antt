@@ -70,9 +70,9 @@ module _ (b : Board) where
         so-far = refl;
         last-known = omega arith;
         tickets-rise = f .tickets-rise;
-        slots-in-order = f .slots-in-order;
+        slots-in-order = never-fall-from (nothing-seen .admitted .0) 1 _ (omega arith) (f .slots-in-order);
         each = f .each;
-        few = λ k g. omega (arith, shares-most 1 0 k, sharing (λ (r : Job). r .admitted) (held b) most-in-slot (f .intake) k);
+        few = λ k g. omega (arith, shares-most (nothing-seen .admitted .0) (nothing-seen .sharing) k, sharing (λ (r : Job). r .admitted) (held b) most-in-slot (f .intake) k);
       } in
       and-intro _ _ (together (λ t. t) (limit-tests (b .depth) (b .slot .0) (b .count)) (omega (arith, le-leb)))
       (and-intro _ _ (facts-well b nothing-seen (used b) well) (blank-places b f))
