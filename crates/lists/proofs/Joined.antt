@@ -1,23 +1,46 @@
--- Tests joined by `&&`, taken apart and put together: a && b && c passes where a, b and c pass.
-use mathlib.Core.Path.{_≡_}
-use mathlib.Core.Bool.{Bool, true, _&&_}
+-- Every element of a list passes a test where each does: taken apart, and put together.
+use mathlib.Core.Path.{_≡_, refl, sym, _∙_}
+use mathlib.Core.Bool.{Bool, true, _&&_, and-true, and-assoc}
 use mathlib.Core.List.{List, [], _∷_}
+use Rattle.lists.specs.Select.{every}
 use Rattle.lists.proofs.Tests.{and-left, and-right, and-intro}
 
--- a joined with the tests of a list
-abbrev pub joined : Bool → List Bool → Bool
-joined a [] = a
-joined a (b ∷ l) = joined (a && b) l
+module _ {A : Type 0} (p : A → Bool) where
+  -- each element of the list passes
+  abbrev pub Each : List A → Type 0
+  Each [] = Unit {0}
+  Each (a ∷ l) = (p a ≡ true) × Each l
 
--- all tests of a list pass
-abbrev pub Pass : List Bool → Type 0
-Pass [] = Unit {0}
-Pass (b ∷ l) = (b ≡ true) × Pass l
+  pub apart : (l : List A) → every p l ≡ true → Each l
+  unfolding every
+  apart [] h = tt
+  apart (a ∷ l) h = (and-left (p a) (every p l) h, apart l (and-right (p a) (every p l) h))
 
-pub apart : (a : Bool) (l : List Bool) → joined a l ≡ true → Pass (a ∷ l)
-apart a [] h = (h, tt)
-apart a (b ∷ l) h = let r = apart (a && b) l h in (and-left a b (r .0), (and-right a b (r .0), r .1))
+  pub together : (l : List A) → Each l → every p l ≡ true
+  unfolding every
+  together [] h = refl
+  together (a ∷ l) h = and-intro (p a) (every p l) (h .0) (together l (h .1))
 
-pub together : (a : Bool) (l : List Bool) → Pass (a ∷ l) → joined a l ≡ true
-together a [] h = h .0
-together a (b ∷ l) h = together (a && b) l (and-intro a b (h .0) (h .1 .0), h .1 .1)
+  -- the tests joined one after the other, as code joins them: p a && p b && p c
+  abbrev pub joined-to : Bool → List A → Bool
+  joined-to t [] = t
+  joined-to t (a ∷ l) = joined-to (t && p a) l
+
+  abbrev pub joined : List A → Bool
+  joined [] = true
+  joined (a ∷ l) = joined-to (p a) l
+
+  joined-to-every : (t : Bool) (l : List A) → joined-to t l ≡ (t && every p l)
+  unfolding every
+  joined-to-every t [] = sym (and-true t)
+  joined-to-every t (a ∷ l) = joined-to-every (t && p a) l ∙ and-assoc t (p a) (every p l)
+
+  pub joined-every : (l : List A) → joined l ≡ every p l
+  unfolding every
+  joined-every [] = refl
+  joined-every (a ∷ l) = joined-to-every (p a) l
+
+-- one more that passes
+infixr 20 _also_
+abbrev pub _also_ : {X Y : Type 0} → X → Y → X × Y
+x also y = (x, y)

@@ -1,8 +1,11 @@
 -- What passing a test says of the members of a list.
 use mathlib.Core.Path.{_≡_, refl, sym, ap, ap₂, _∙_, subst}
-use mathlib.Core.Bool.{Bool, true, false, not, _&&_, _||_, cond}
+use mathlib.Core.Bool.{Bool, true, false, _&&_, _||_, cond}
 use mathlib.Core.Logic.{_⊎_, inl, inr}
 use mathlib.Core.List.{List, [], _∷_, _++_, List·Memᴰ, List·Memᴰ·head, List·Memᴰ·tail, List·Memᴰ·cases-cons, List·Memᴰ·not-nil}
+use Prim.Native.Nat.{ℕ, _≤_}
+use lib.Dec.{leb}
+use borrow.Author.Tests.{le-leb}
 use Rattle.lists.specs.Select.{select, every, has}
 use Rattle.lists.proofs.Tests.{test, never, and-left, and-right, and-intro, or-cases, or-left, or-right, or-false, cond-true, cond-false}
 
@@ -126,3 +129,7 @@ pub select-all : {A : Type 0} (p : A → Bool) (l : List A) → ((x : A) → Lis
 unfolding select
 select-all p [] f = refl
 select-all p (a ∷ l) f = ap₂ (λ b k. cond b (a ∷ k) k) (f a (List·Memᴰ·head refl)) (select-all p l (λ x m. f x (List·Memᴰ·tail m)))
+
+-- a comparison that each member passes
+pub le-every : {A : Type 0} {f g : A → ℕ} (l : List A) → ((x : A) → List·Memᴰ x l → f x ≤ g x) → every (λ x. leb (f x) (g x)) l ≡ true
+le-every {f = f} {g = g} l h = mem-every _ l (λ x m. le-leb (f x) (g x) (h x m))

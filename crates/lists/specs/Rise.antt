@@ -13,3 +13,13 @@ rise m (n ∷ l) = ltb m n && rise n l
 unfoldable pub never-fall : ℕ → List ℕ → Bool
 never-fall m [] = true
 never-fall m (n ∷ l) = leb m n && never-fall n l
+
+-- each number is above the one before
+unfoldable pub rising : List ℕ → Bool
+rising [] = true
+rising (n ∷ l) = rise n l
+
+-- no number is below the one before
+unfoldable pub never-falling : List ℕ → Bool
+never-falling [] = true
+never-falling (n ∷ l) = never-fall n l

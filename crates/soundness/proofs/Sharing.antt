@@ -1,16 +1,17 @@
 -- How many jobs share an admitted slot, seen from the count that the walk keeps.
-use mathlib.Core.Path.{_≡_, refl, sym, ap}
+use mathlib.Core.Path.{_≡_, sym, ap}
 use mathlib.Core.Bool.{Bool, true, false, cond}
 use mathlib.Core.Logic.{_⊎_, inl, inr}
-use mathlib.Core.List.{List, [], _∷_, map}
+use mathlib.Core.List.{List, _∷_, map, Memᴰ·map}
 use Prim.Native.Nat.{ℕ, _+_, _≤_, _<_}
 use native.Mathlib.Omega.{arith}
-use lib.Dec.{leb, eqb}
-use borrow.Author.Tests.{leb-true, eq-eqb, ne-eqb}
+use lib.Dec.{eqb}
+use borrow.Author.Tests.{eq-eqb, ne-eqb}
 use Rattle.lists.specs.Select.{one-if, how-many}
 use Rattle.lists.specs.Rise.{never-fall}
-use Rattle.lists.proofs.Tests.{cmp, and-left, and-right, cond-true, cond-false}
-use Rattle.lists.proofs.Counting.{one-if-yes, one-if-no}
+use Rattle.lists.proofs.Tests.{cmp, test, cond-true, cond-false}
+use Rattle.lists.proofs.Counting.{one-if-yes, one-if-no, count-none}
+use Rattle.lists.proofs.Rising.{never-fall-above}
 use Rattle.rule.specs.Job.{Job}
 use Rattle.board.specs.declared.Place.{Place}
 use Rattle.board.specs.Limits.{most-in-slot}
@@ -58,21 +59,18 @@ shares-more a n c k h g = go (cmp k c)
 
 -- where admitted slots never fall, none is before the first
 pub none-before : (k m : ℕ) (A : List Job) → never-fall m (map (λ (r : Job). r .admitted) A) ≡ true → k < m → admitted-in k A ≡ 0
-unfolding never-fall how-many
-none-before k m [] h g = refl
-none-before k m (r ∷ A) h g =
-    let first : m ≤ r .admitted = leb-true m (r .admitted) (and-left _ _ h) in
-    let later : never-fall (r .admitted) (map (λ (q : Job). q .admitted) A) ≡ true = and-right (leb m (r .admitted)) _ h in
-    omega (arith, one-if-no (eqb (r .admitted) k) (ne-eqb (r .admitted) k (omega arith)), none-before k (r .admitted) A later (omega arith))
+none-before k m A h g =
+    count-none _ A (λ r i. ne-eqb (r .admitted) k (omega (arith, never-fall-above m h (Memᴰ·map (λ (q : Job). q .admitted) i))))
 
 -- the count that the walk keeps
 pub sharing-is : (s : Seen) (x : Place) → sharing-with s x ≡ shares (s .admitted .0) (s .sharing) (x .admitted .0) + 1
 unfolding sharing-with shares
-sharing-is s x = go (eqb (x .admitted .0) (s .admitted .0))
+sharing-is s x = go (test (eqb (x .admitted .0) (s .admitted .0)))
   where
-    go : (t : Bool) → cond t (s .sharing + 1) 1 ≡ cond t (s .sharing) 0 + 1
-    go true = refl
-    go false = refl
+    go : (eqb (x .admitted .0) (s .admitted .0) ≡ true) ⊎ (eqb (x .admitted .0) (s .admitted .0) ≡ false)
+        → sharing-with s x ≡ shares (s .admitted .0) (s .sharing) (x .admitted .0) + 1
+    go (inl e) = rw e (omega arith)
+    go (inr e) = rw e (omega arith)
 
 pub sharing-most : (s : Seen) (x : Place) → sharing-with s x ≤ s .sharing + 1
 sharing-most s x = omega (arith, sharing-is s x, shares-most (s .admitted .0) (s .sharing) (x .admitted .0))

@@ -1,10 +1,9 @@
 -- What one step of a loop does to what is left of the places.
 use mathlib.Core.Path.{_≡_, sym}
 use mathlib.Core.Bool.{Bool, _&&_, and-true, and-assoc}
-use mathlib.Core.List.{List}
+use mathlib.Core.List.{List, []}
 use Prim.Native.Nat.{ℕ, suc, _+_, _^_, _≤_, _<_}
 use native.Mathlib.Numerals.{add-one}
-use lib.Dec.{leb}
 use lib.ListN.{length, getD, drop, drop-of-length-le}
 use lib.Seq.{drop-cons, slice, slice-cons, slice-empty}
 use Rattle.lists.specs.Select.{every}
@@ -32,6 +31,5 @@ unfolding all-well
 walk-step b s r g i e h f q = rw (q, e, add-one, slice-cons i (b .count) (b .places) blank)
 
 -- no job is left
-pub walk-done : (b : Board) (s : Seen) (i : ℕ) → i ≡ b .count → (s .well && leb (s .ticket) (b .highest)) ≡ all-well b s (slice i (b .count) (b .places))
-unfolding all-well
+pub walk-done : (b : Board) (s : Seen) (i : ℕ) → i ≡ b .count → all-well b s [] ≡ all-well b s (slice i (b .count) (b .places))
 walk-done b s i e = rw (e, slice-empty)

@@ -1,14 +1,11 @@
 // Whether a board is sound: its limits, then one walk along its jobs and one along the places past them. Tests are joined
 // by `&` and not by `&&`: this runs at every public call, and the walks then have no branch to guess.
 ghost use mathlib.Core.Path.{_≡_};
-ghost use Prim.Native.Nat.{_≤_, _-_, _^_};
-ghost use lib.Dec.{ltb};
-ghost use lib.ListN.{drop};
-ghost use Rattle.lists.specs.Select.{every};
-ghost use Rattle.board.specs.Limits.{longest-laxity, places-held, deepest};
+ghost use Prim.Native.Nat.{_≤_, _^_};
+ghost use Rattle.board.specs.Limits.{places-held, deepest};
 ghost use Rattle.board.specs.Held.{used};
-ghost use Rattle.board.specs.Sound.{is-blank, sound};
-ghost use Rattle.soundness.specs.Walk.{in-limits, nothing-seen, sharing-with, seen-with, all-well};
+ghost use Rattle.board.specs.Sound.{is-blank, blank-past-count, sound};
+ghost use Rattle.soundness.specs.Walk.{in-limits, nothing-seen, sharing-with, is-short, seen-with, all-well};
 use board::Board;
 use board::Place;
 use board::Slot;
@@ -42,7 +39,7 @@ fn grades_of(depth: u8) -> u8
 
 // From the admitted slot to the last a job has no more slots than the longest laxity. In 64 bits the sum cannot wrap.
 fn is_short(x: Place) -> bool
-    ensures { λ r. ⌜ r ≡ ltb (x .last .0 - x .admitted .0) longest-laxity ⌝ }
+    ensures { λ r. ⌜ r ≡ is-short x ⌝ }
 {
     (x.last.0 as u64) < (x.admitted.0 as u64) + (Board::LONGEST_LAXITY as u64)
 }
@@ -112,7 +109,7 @@ fn is_blank(x: Place) -> bool
 
 // The places past the count are blank.
 fn blank_past(b: Board) -> bool
-    ensures { λ r. ⌜ r ≡ every is-blank (drop (b .count) (b .places)) ⌝ }
+    ensures { λ r. ⌜ r ≡ blank-past-count b ⌝ }
 {
     let n = b.count;
     let mut blank = true;

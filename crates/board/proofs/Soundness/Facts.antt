@@ -1,18 +1,17 @@
 -- What soundness says of a board, as facts about its numbers and its jobs.
 use mathlib.Core.Path.{_≡_}
-use mathlib.Core.Bool.{Bool, true}
-use mathlib.Core.List.{List, [], _∷_, map, List·Memᴰ}
+use mathlib.Core.Bool.{true}
+use mathlib.Core.List.{List, map, List·Memᴰ}
 use Prim.Native.Nat.{ℕ, suc, _-_, _^_, _≤_, _<_}
-use lib.Dec.{leb, ltb, eqb}
+use lib.Dec.{eqb}
 use lib.ListN.{length, drop}
-use Rattle.lists.specs.Select.{how-many, every}
+use Rattle.lists.specs.Select.{how-many}
 use Rattle.lists.specs.Rise.{rise, never-fall}
 use Rattle.rule.specs.Job.{Job}
 use Rattle.board.specs.declared.Place.{Place}
 use Rattle.board.specs.declared.Board.{Board}
 use Rattle.board.specs.Limits.{longest-laxity, most-in-slot, places-held, last-slot, deepest}
 use Rattle.board.specs.Held.{blank, held}
-use Rattle.board.specs.Sound.{is-blank, sound-job, sound-intake}
 
 -- a job of a sound board
 pub record JobFacts (b : Board) (r : Job) : Type 0 where
@@ -37,22 +36,3 @@ pub record SoundFacts (b : Board) : Type 0 where
   pub slots-in-order : never-fall 1 (map (λ (r : Job). r .admitted) (held b)) ≡ true
   pub each : (r : Job) → List·Memᴰ r (held b) → JobFacts b r
   pub intake : (r : Job) → List·Memᴰ r (held b) → admitted-in (r .admitted) (held b) ≤ most-in-slot
-
--- the tests of soundness, after the first: the number of places
-abbrev pub board-tests : Board → List Bool
-board-tests b =
-    leb (b .depth) deepest
-    ∷ leb 1 (b .slot .0)
-    ∷ leb (b .slot .0) (suc last-slot)
-    ∷ leb (b .count) places-held
-    ∷ every is-blank (drop (b .count) (b .places))
-    ∷ rise 0 (map (λ (r : Job). r .ticket) (held b))
-    ∷ every (λ (r : Job). leb (r .ticket) (b .highest)) (held b)
-    ∷ never-fall 1 (map (λ (r : Job). r .admitted) (held b))
-    ∷ every (sound-job b) (held b)
-    ∷ sound-intake (held b)
-    ∷ []
-
--- the tests of a job, after the first: its admitted slot
-abbrev pub job-tests : Board → Job → List Bool
-job-tests b r = leb (b .slot .0) (r .last) ∷ ltb (r .last - r .admitted) longest-laxity ∷ ltb (r .grade) (2 ^ b .depth) ∷ []

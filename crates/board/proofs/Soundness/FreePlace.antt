@@ -2,7 +2,7 @@
 use mathlib.Core.Path.{_≡_}
 use mathlib.Core.Bool.{true}
 use mathlib.Core.List.{List·Memᴰ}
-use Prim.Native.Nat.{ℕ, _-_, _≤_, _<_}
+use Prim.Native.Nat.{ℕ, suc, _-_, _≤_, _<_}
 use native.Mathlib.Omega.{arith}
 use lib.Dec.{eqb}
 use borrow.Author.Tests.{eqb-true, eq-eqb}
@@ -34,7 +34,7 @@ module _ (b : Board) (f : SoundFacts b) where
             (λ q i e. eq-eqb (q .admitted) (r .admitted) (omega (arith, eqb-true (age q) (age r) e, f .each q i .begun, f .each r m .begun))),
       )
 
-  young : (r : Job) → List·Memᴰ r (held b) → age r < longest-laxity
+  young : (r : Job) → List·Memᴰ r (held b) → age r < suc (longest-laxity - 1)
   unfolding age longest-laxity
   young r m = omega (arith, f .each r m .begun, f .each r m .in-date, f .each r m .short)
 
@@ -46,7 +46,7 @@ module _ (b : Board) (f : SoundFacts b) where
 
   pub room : in-slot b < most-in-slot → b .count < places-held
   unfolding longest-laxity most-in-slot places-held
-  room h = omega (arith, held-count b (omega (arith, f .full, f .counted)), spread age (held b) most-in-slot 31 shared young, new)
+  room h = omega (arith, held-count b (omega (arith, f .full, f .counted)), spread age (held b) most-in-slot (longest-laxity - 1) shared young, new)
 
 pub free-place : (b : Board) → sound b ≡ true → in-slot b < most-in-slot → b .count < places-held
 free-place b s = room b (facts b s)

@@ -1,45 +1,43 @@
 -- A board with the facts is sound.
 use mathlib.Core.Path.{_≡_, refl, ap, _∙_}
-use mathlib.Core.Bool.{true}
-use Prim.Native.Nat.{suc, _-_, _^_}
-use lib.Dec.{leb, eqb}
-use lib.ListN.{length, drop}
-use borrow.Author.Tests.{lt-ltb, le-leb, eq-eqb}
-use Rattle.lists.proofs.Members.{mem-every}
+use mathlib.Core.Bool.{Bool, true}
+use mathlib.Core.List.{Memᴰ·map}
+use borrow.Author.Tests.{le-leb, eq-eqb}
+use Rattle.lists.specs.Select.{every}
+use Rattle.lists.proofs.Members.{mem-every, le-every}
+use Rattle.lists.proofs.Joined.{together, _also_}
+use Rattle.lists.proofs.Rising.{rise-above, never-fall-above, rise-rising, never-fall-falling}
 use Rattle.rule.specs.Job.{Job}
 use Rattle.board.specs.declared.Board.{Board}
-use Rattle.board.specs.Limits.{longest-laxity, most-in-slot, places-held, last-slot, deepest}
-use Rattle.board.specs.Held.{blank, held}
-use Rattle.board.specs.Sound.{is-blank, sound-job, sound-intake, sound}
-use Rattle.lists.proofs.Joined.{together}
-use Rattle.board.proofs.Soundness.Facts.{JobFacts, SoundFacts, admitted-in, board-tests, job-tests}
+use Rattle.board.specs.Held.{blank}
+use Rattle.board.specs.Sound.{is-blank, blank-past-count, clauses, sound}
+use Rattle.board.proofs.Soundness.Facts.{SoundFacts}
 
 place-blank : is-blank blank ≡ true
-unfolding is-blank
+unfolding is-blank every
 place-blank = refl
 
-facts-job : (b : Board) (r : Job) → JobFacts b r → sound-job b r ≡ true
-unfolding sound-job
-facts-job b r f =
-    let begun = le-leb (r .admitted) (b .slot .0) (f .begun) in
-    let in-date = le-leb (b .slot .0) (r .last) (f .in-date) in
-    let short = lt-ltb (r .last - r .admitted) longest-laxity (f .short) in
-    let graded = lt-ltb (r .grade) (2 ^ b .depth) (f .graded) in
-    together (leb (r .admitted) (b .slot .0)) (job-tests b r) (begun, (in-date, (short, (graded, tt))))
+pub blank-places : (b : Board) → SoundFacts b → blank-past-count b ≡ true
+blank-places b f = mem-every is-blank _ (λ x m. ap is-blank (f .blank-past x m) ∙ place-blank)
 
 pub all-sound : (b : Board) → SoundFacts b → sound b ≡ true
-unfolding sound sound-intake
+unfolding sound clauses
 all-sound b f =
-    let full = eq-eqb (length (b .places)) places-held (f .full) in
-    let shallow = le-leb (b .depth) deepest (f .shallow) in
-    let from-first = le-leb 1 (b .slot .0) (f .from-first) in
-    let to-last = le-leb (b .slot .0) (suc last-slot) (f .to-last) in
-    let counted = le-leb (b .count) places-held (f .counted) in
-    let blanks = mem-every is-blank (drop (b .count) (b .places)) (λ x m. ap is-blank (f .blank-past x m) ∙ place-blank) in
-    let known = mem-every (λ (r : Job). leb (r .ticket) (b .highest)) (held b) (λ r m. le-leb (r .ticket) (b .highest) (f .each r m .known)) in
-    let jobs = mem-every (sound-job b) (held b) (λ r m. facts-job b r (f .each r m)) in
-    let intake =
-    mem-every (λ (r : Job). leb (admitted-in (r .admitted) (held b)) most-in-slot) (held b)
-    (λ r m. le-leb (admitted-in (r .admitted) (held b)) most-in-slot (f .intake r m)) in
-    together (eqb (length (b .places)) places-held) (board-tests b)
-    (full, (shallow, (from-first, (to-last, (counted, (blanks, (f .tickets-rise, (known, (f .slots-in-order, (jobs, (intake, tt)))))))))))
+    together (λ (c : Board → Bool). c b) clauses
+    (eq-eqb _ _ (f .full)
+    also le-leb _ _ (f .shallow)
+    also le-leb _ _ (f .from-first)
+    also le-leb _ _ (f .to-last)
+    also le-leb _ _ (f .counted)
+    also blank-places b f
+    also rise-rising 0 _ (f .tickets-rise)
+    also le-every _ (λ r m. rise-above 0 (f .tickets-rise) (Memᴰ·map (λ (q : Job). q .ticket) m))
+    also le-every _ (λ r m. f .each r m .known)
+    also le-every _ (λ r m. never-fall-above 1 (f .slots-in-order) (Memᴰ·map (λ (q : Job). q .admitted) m))
+    also never-fall-falling 1 _ (f .slots-in-order)
+    also le-every _ (λ r m. f .each r m .begun)
+    also le-every _ (λ r m. f .each r m .in-date)
+    also le-every _ (λ r m. f .each r m .short)
+    also le-every _ (λ r m. f .each r m .graded)
+    also le-every _ (f .intake)
+    also tt)

@@ -1,20 +1,12 @@
 -- `soundness::is_short`. Assumes nothing.
-use mathlib.Core.Path.{_≡_}
-use Prim.Native.Nat.{ℕ, suc, _+_, _-_}
 use native.Mathlib.Omega.{arith}
-use lib.Dec.{ltb}
 use borrow.Author.Needs.{needs}
-use borrow.Author.Tests.{ltb-true, lt-ltb}
+use borrow.Author.Tests.{leb-true, le-leb}
 use Rattle.lists.proofs.Tests.{same-test}
 use Rattle.board.specs.Limits.{longest-laxity}
+use Rattle.soundness.specs.Walk.{is-short}
 use Rattle.soundness.proofs.is_short.Statement.{statement}
 use Rattle.soundness.proofs.is_short.Tie as tie
-
--- a difference below a number, by a sum
-by-sum : (x y n : ℕ) → ltb x (y + suc n) ≡ ltb (x - y) (suc n)
-by-sum x y n =
-    same-test (ltb x (y + suc n)) (ltb (x - y) (suc n)) (λ h. lt-ltb (x - y) (suc n) (omega (arith, ltb-true x (y + suc n) h)))
-    (λ h. lt-ltb x (y + suc n) (omega (arith, ltb-true (x - y) (suc n) h)))
 
 cast-result : tie.Need-cast-result
 cast-result c = search needs
@@ -29,8 +21,8 @@ add-result : tie.Need-add-result
 add-result c = search needs
 
 returns : tie.Need-returns
-unfolding longest-laxity
-returns c = let x = c .before .before .args .x in by-sum (x .last .0) (x .admitted .0) 31
+unfolding is-short longest-laxity
+returns c = same-test _ _ (λ h. omega (arith, leb-true, le-leb)) (λ h. omega (arith, leb-true, le-leb))
 
 pub is-short-spec : {M : Type 1} → statement M
 is-short-spec = tie.close (tie.spec cast-result cast-result-2 cast-result-3 add-result returns)

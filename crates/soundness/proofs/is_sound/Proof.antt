@@ -5,7 +5,7 @@ use borrow.Author.Needs.{needs}
 use borrow.Author.Tests.{not-true, not-false}
 use Rattle.board.specs.Limits.{places-held}
 use Rattle.soundness.specs.Walk.{in-limits}
-use Rattle.soundness.proofs.Known.{places-256}
+use Rattle.soundness.proofs.Known.{all-places}
 use Rattle.soundness.proofs.Parts.{sound-is, within}
 use Rattle.soundness.proofs.is_sound.Statement.{statement}
 use Rattle.soundness.proofs.is_sound.Tie as tie
@@ -20,7 +20,7 @@ returns c =
     let a = l .before .before in
     let b = a .args .b in
     let out : in-limits (b .depth) (b .slot .0) (b .count) ≡ false = sym (l .in-limits .ensures) ∙ not-true (l .in-limits .result) (c .if1 .taken) in
-    rw out at (sound-is b (places-256 b _ (a .good .0)))
+    rw out at (sound-is b (all-places b _ (a .good .0)))
 
 in-its-limits : (c : tie.Else1) → let b = c .before .before .before .args .b in in-limits (b .depth) (b .slot .0) (b .count) ≡ true
 in-its-limits c = sym (c .before .in-limits .ensures) ∙ not-false (c .before .in-limits .result) (c .if1 .left)
@@ -37,7 +37,7 @@ returns-2 c =
     let e = c .before .before in
     let a = e .before .before .before in
     let b = a .args .b in
-    ap₂ _&&_ (c .before .jobs-sound .ensures) (c .blank-past .ensures) ∙ (rw (in-its-limits e) at (sound-is b (places-256 b _ (a .good .0))))
+    ap₂ _&&_ (c .before .jobs-sound .ensures) (c .blank-past .ensures) ∙ (rw (in-its-limits e) at (sound-is b (all-places b _ (a .good .0))))
 
 pub is-sound-spec : {M : Type 1} → statement M
 is-sound-spec = tie.close (tie.spec in-limits-requires returns jobs-sound-requires blank-past-requires returns-2)

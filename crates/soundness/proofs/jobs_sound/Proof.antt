@@ -9,7 +9,7 @@ use Rattle.board.specs.Limits.{places-held}
 use Rattle.board.specs.Held.{blank, used}
 use Rattle.soundness.specs.declared.Seen.{Seen}
 use Rattle.soundness.specs.Walk.{seen-with, nothing-seen, all-well}
-use Rattle.soundness.proofs.Known.{places-256}
+use Rattle.soundness.proofs.Known.{all-places}
 use Rattle.soundness.proofs.Sharing.{sharing-most}
 use Rattle.soundness.proofs.Steps.{walk-step, walk-done}
 use Rattle.soundness.proofs.jobs_sound.Statement.{statement}
@@ -54,7 +54,7 @@ loop-again c =
     let l = c .before .before .before in
     let g = l .before in
     let b = g .before .before .args .t1 in
-    let full : length (b .places) ≡ 256 = places-256 b _ (g .before .before .good .0) in
+    let full : length (b .places) ≡ places-held = all-places b _ (g .before .before .good .0) in
     let seen = c .seen-with .ensures in (
       omega arith,
       omega (arith, ap (λ (r : Seen). r .sharing) seen, sharing-most (l .loop .s) (getD (b .places) (l .loop .i) blank)),
@@ -63,6 +63,7 @@ loop-again c =
     )
 
 returns : tie.Need-returns Inv-loop μ-loop
+unfolding all-well
 returns c =
     let l = c .before .before .before in
     walk-done (l .before .before .before .args .t1) (l .loop .s) (l .loop .i) (omega arith) ∙ l .loop .inv .2
