@@ -13,8 +13,9 @@ use Rattle.board.specs.Tally.{zero-tally}
 use Rattle.board.proofs.Calls.SoundAfterOpening.{opened-sound, opened-count}
 use Rattle.claims.specs.Calls.{Call, board-after}
 use Rattle.claims.specs.Balance.{noted, board-after-all, noted-all, fed, AllTaken, Balance}
+use Rattle.claims.proofs.SoundKept.{sound-after-all}
 use Rattle.claims.proofs.Tallying.InBalance.{balance}
-use Rattle.lines.proofs.NeverMet.OneMore.{board-one-more, noted-one-more, fed-append, taken-append, sound-after-all}
+use Rattle.lines.proofs.NeverMet.OneMore.{board-one-more, noted-one-more, fed-append, taken-append}
 
 -- the board and the tally are those after some calls on a sound board without jobs
 pub record Run (b : Board) (y : Tally) : Type 0 where

@@ -1,13 +1,10 @@
 -- A run and one more call: the board after it, its events, and the tally fed them.
 use mathlib.Core.Path.{_≡_, refl, ap, _∙_, sym}
-use mathlib.Core.Bool.{true}
 use mathlib.Core.List.{List, [], _∷_, _++_, append-assoc, append-nil}
 use Rattle.board.specs.declared.Board.{Board}
 use Rattle.board.specs.declared.Tally.{Tally}
-use Rattle.board.specs.Sound.{sound}
 use Rattle.board.specs.Tally.{counted}
-use Rattle.board.proofs.Calls.SoundAfter.{admitted-sound, closed-sound}
-use Rattle.claims.specs.Calls.{Call, admit, close, board-after}
+use Rattle.claims.specs.Calls.{Call, board-after}
 use Rattle.claims.specs.Balance.{Noted, noted, board-after-all, noted-all, fed, AllTaken}
 
 -- the board after all calls and one more
@@ -35,14 +32,3 @@ pub taken-append : (t : Tally) (es fs : List Noted) → AllTaken t (es ++ fs) �
 unfolding fed AllTaken
 taken-append t [] fs h = h
 taken-append t (e ∷ es) fs h = taken-append (counted t (e .kind) (e .grade) .tally) es fs (h .1)
-
--- every call keeps a sound board sound
-sound-kept : (b : Board) (c : Call) → sound b ≡ true → sound (board-after b c) ≡ true
-unfolding board-after
-sound-kept b (admit t w g) s = admitted-sound b t w g s
-sound-kept b (close lent) s = closed-sound b lent s
-
-pub sound-after-all : (b : Board) (cs : List Call) → sound b ≡ true → sound (board-after-all b cs) ≡ true
-unfolding board-after-all
-sound-after-all b [] s = s
-sound-after-all b (c ∷ cs) s = sound-after-all (board-after b c) cs (sound-kept b c s)
