@@ -43,7 +43,7 @@ keeps-rival S q a B T k h p P =
       sum-ones (picks-on q d B) k,
       sum-ones (picks-on (following p) d B) k,
       baked-tally S B T q d (λ r. true) k,
-      realised S B T p P d (λ r. true) k h,
+      realised S B T p P d (λ r. true) k (omega arith),
     )
 
 -- no count is larger
