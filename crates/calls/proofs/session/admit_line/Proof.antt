@@ -1,5 +1,6 @@
 -- `calls::session::admit_line`: refused, or the board with the job and one event more. Assumes nothing.
 use borrow.Author.Needs.{needs}
+use Rattle.board.specs.Events.{admitted-kind}
 use Rattle.lines.specs.Bytes.{letter-A}
 use Rattle.calls.specs.Days.{GoodDay, line-room}
 use Rattle.calls.proofs.Answering.Answers.{given-as, admit-refused, admit-given}
@@ -36,7 +37,7 @@ same-length-2 : tie.Need-same-length-2
 same-length-2 c = search needs
 
 returns-2 : tie.Need-returns-2
-unfolding letter-A GoodDay
+unfolding letter-A GoodDay admitted-kind
 returns-2 c =
     let s = c .before .before .before .before .before in
     let e = s .before .before .before in
