@@ -1,1 +1,4 @@
 pub mod CountAt
+pub mod Kinds
+pub mod Fed
+pub mod FedCounts

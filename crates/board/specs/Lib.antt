@@ -7,3 +7,4 @@ pub mod Admit
 pub mod Close
 pub mod Lent
 pub mod Tally
+pub mod Events

@@ -4,5 +4,6 @@ pub mod Rivals
 pub mod Outside
 pub mod Next
 pub mod Characterised
+pub mod OurRule
 pub mod NeverIdle
 pub mod LeastLastSlot

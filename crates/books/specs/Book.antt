@@ -1,9 +1,6 @@
 -- Books: a beginning, and the admittings and closings since, in order.
-use mathlib.Core.Bool.{Bool, true, _&&_}
 use mathlib.Core.List.{List, [], _∷_, _++_}
 use Prim.Native.Nat.{ℕ, suc, _+_}
-use lib.Dec.{leb, ltb}
-use Rattle.lists.specs.Select.{every}
 use Rattle.rule.specs.Job.{Job, job}
 
 -- 'The day book starts with that board's slot and highest ticket, and no racks.' Here it may start with some jobs; 01's books have none.
@@ -12,48 +9,48 @@ pub record Beginning : Type 0 where
   pub highest : ℕ
   pub jobs : List Job
 
--- 'enters its rack', 'ends the book's slot and moves to the next'
-pub data Event : Type 0 where
-  enter : (ticket laxity grade : ℕ) → Event
-  end-slot : Event
+-- what a call that is let through changes in the book: it 'enters its rack', or 'ends the book's slot and moves to the next'
+pub data Change : Type 0 where
+  enter : (ticket laxity grade : ℕ) → Change
+  end-slot : Change
 
 pub record Book : Type 0 where
   pub beginning : Beginning
-  pub events : List Event
+  pub changes : List Change
 
--- how many slots the events close
-unfoldable pub closings : List Event → ℕ
+-- how many slots the changes close
+unfoldable pub closings : List Change → ℕ
 closings [] = 0
-closings (enter t w g ∷ es) = closings es
-closings (end-slot ∷ es) = suc (closings es)
+closings (enter t w g ∷ cs) = closings cs
+closings (end-slot ∷ cs) = suc (closings cs)
 
 -- the slots closed in a book, and the book's slot
 unfoldable pub closed : Book → ℕ
-closed B = closings (B .events)
+closed B = closings (B .changes)
 
 unfoldable pub present : Book → ℕ
 present B = B .beginning .slot + closed B
 
--- 'with the book's slot as admitted slot': the jobs that the events enter, from a slot on
-unfoldable pub entered : ℕ → List Event → List Job
+-- 'with the book's slot as admitted slot': the jobs that the changes enter, from a slot on
+unfoldable pub entered : ℕ → List Change → List Job
 entered s [] = []
-entered s (enter t w g ∷ es) = job t s w g ∷ entered s es
-entered s (end-slot ∷ es) = entered (suc s) es
+entered s (enter t w g ∷ cs) = job t s w g ∷ entered s cs
+entered s (end-slot ∷ cs) = entered (suc s) cs
 
 -- the jobs of a book
 unfoldable pub jobs : Book → List Job
-jobs B = B .beginning .jobs ++ entered (B .beginning .slot) (B .events)
+jobs B = B .beginning .jobs ++ entered (B .beginning .slot) (B .changes)
 
 -- 'its ticket becomes the highest'
-unfoldable pub raised : ℕ → List Event → ℕ
+unfoldable pub raised : ℕ → List Change → ℕ
 raised h [] = h
-raised h (enter t w g ∷ es) = raised t es
-raised h (end-slot ∷ es) = raised h es
+raised h (enter t w g ∷ cs) = raised t cs
+raised h (end-slot ∷ cs) = raised h cs
 
 -- the highest ticket of a book
 unfoldable pub highest : Book → ℕ
-highest B = raised (B .beginning .highest) (B .events)
+highest B = raised (B .beginning .highest) (B .changes)
 
--- a book with one event more
-unfoldable pub extend : Book → Event → Book
-extend B e = record { beginning = B .beginning; events = B .events ++ (e ∷ []) }
+-- a book with one change more
+unfoldable pub extend : Book → Change → Book
+extend B c = record { beginning = B .beginning; changes = B .changes ++ (c ∷ []) }

@@ -9,7 +9,7 @@ use Rattle.lists.specs.Select.{every}
 use Rattle.lists.specs.Rise.{rise}
 use Rattle.rule.specs.Job.{Job}
 use Rattle.rule.specs.Grade.{graded}
-use Rattle.books.specs.Book.{Beginning, Event, enter, end-slot, Book, closed}
+use Rattle.books.specs.Book.{Beginning, Change, enter, end-slot, Book, closed}
 use Rattle.books.specs.Schedule.{Schedule, IsSchedule, baked-in, total}
 use Rattle.books.specs.Rule.{Rule, made-by}
 
@@ -27,11 +27,11 @@ fit S g = ltb g (2 ^ S .depth) && S .allowed g
 unfoldable pub any-laxity : ℕ → Bool
 any-laxity w = leb 1 w
 
--- 'tickets still rise, without end; [..] a slot takes any number of racks and a book any number of slots': the events after the highest ticket h
-unfoldable pub lifted : Setting → ℕ → List Event → Bool
+-- 'tickets still rise, without end; [..] a slot takes any number of racks and a book any number of slots': the changes after the highest ticket h
+unfoldable pub lifted : Setting → ℕ → List Change → Bool
 lifted S h [] = true
-lifted S h (enter t w g ∷ es) = ltb h t && any-laxity w && fit S g && lifted S t es
-lifted S h (end-slot ∷ es) = lifted S h es
+lifted S h (enter t w g ∷ cs) = ltb h t && any-laxity w && fit S g && lifted S t cs
+lifted S h (end-slot ∷ cs) = lifted S h cs
 
 -- the jobs at a beginning, if any: tickets rise from 1 to the highest, no grade is unfit, none is of a later slot
 unfoldable pub begun : Setting → Beginning → Bool
@@ -42,7 +42,7 @@ begun S b =
 pub record Tried (S : Setting) (B : Book) : Type 0 where
   pub beginning : S .begins (B .beginning) ≡ true
   pub present : begun S (B .beginning) ≡ true
-  pub later : lifted S (B .beginning .highest) (B .events) ≡ true
+  pub later : lifted S (B .beginning .highest) (B .changes) ≡ true
 
 -- 'It is a rival when on every such book, for every k up to the slots closed, no plan bakes more in the first k slots.'
 unfoldable pub Rival : Setting → Rule → Type 0

@@ -1,3 +1,4 @@
+pub mod SoundKept
 pub mod Agreement
 pub mod Drawing
 pub mod Tallying

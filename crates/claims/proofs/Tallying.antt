@@ -1,4 +1,3 @@
-pub mod FedCounts
 pub mod RunFacts
 pub mod AdmitFacts
 pub mod Fates

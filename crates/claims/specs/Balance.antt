@@ -1,7 +1,7 @@
 -- The balance of the tally over a run, and that no event of it is refused.
 use mathlib.Core.Path.{_≡_}
-use mathlib.Core.Bool.{Bool, true, cond}
-use mathlib.Core.List.{List, [], _∷_, _++_, map}
+use mathlib.Core.Bool.{true}
+use mathlib.Core.List.{List, [], _∷_, _++_}
 use Prim.Native.Nat.{ℕ, _+_, _<_}
 use lib.Dec.{eqb}
 use Rattle.lists.specs.Select.{how-many}
@@ -10,54 +10,38 @@ use Rattle.board.specs.declared.Board.{Board}
 use Rattle.board.specs.declared.Tally.{Tally}
 use Rattle.board.specs.Held.{held}
 use Rattle.board.specs.Sound.{sound}
-use Rattle.board.specs.Admit.{admitted}
-use Rattle.board.specs.Close.{closed, given-up}
-use Rattle.board.specs.Tally.{zero-tally, counted, count-at}
+use Rattle.board.specs.Tally.{zero-tally, count-at}
+use Rattle.board.specs.Events.{admitted-kind, baked-kind, given-up-kind, Event, admit-events, close-events, fed, all-taken}
 use Rattle.claims.specs.Calls.{Call, admit, close, board-after}
 
--- 'one event at a time: kind 0 admitted, 1 baked, 2 given up, with a grade'
-pub record Noted : Type 0 where
-  pub kind : ℕ
-  pub grade : ℕ
-
--- the events of a call; a refused call has none, and an 'empty' closing bakes nothing
-unfoldable pub noted : Board → Call → List Noted
-noted b (admit t w g) = cond (eqb (admitted b t w g .refusal) 0) (record { kind = 0; grade = g } ∷ []) []
-noted b (close lent) =
-    let r = closed b lent in
-    cond (eqb (r .refusal) 0)
-    (cond (eqb (r .ticket) 0) [] (record { kind = 1; grade = r .grade } ∷ []) ++ map (λ (x : Job). record { kind = 2; grade = x .grade }) (given-up b))
-    []
+-- the events of a call
+unfoldable pub events-of : Board → Call → List Event
+events-of b (admit t w g) = admit-events b t w g
+events-of b (close lent) = close-events b lent
 
 -- the board after a list of calls, and all their events
 unfoldable pub board-after-all : Board → List Call → Board
 board-after-all b [] = b
 board-after-all b (c ∷ cs) = board-after-all (board-after b c) cs
 
-unfoldable pub noted-all : Board → List Call → List Noted
-noted-all b [] = []
-noted-all b (c ∷ cs) = noted b c ++ noted-all (board-after b c) cs
+unfoldable pub all-events : Board → List Call → List Event
+all-events b [] = []
+all-events b (c ∷ cs) = events-of b c ++ all-events (board-after b c) cs
 
--- a tally fed events
-unfoldable pub fed : Tally → List Noted → Tally
-fed t [] = t
-fed t (e ∷ es) = fed (counted t (e .kind) (e .grade) .tally) es
-
--- none of the events is refused
-unfoldable pub AllTaken : Tally → List Noted → Type 0
-AllTaken t [] = Unit {0}
-AllTaken t (e ∷ es) = (counted t (e .kind) (e .grade) .refusal ≡ 0) × AllTaken (counted t (e .kind) (e .grade) .tally) es
+-- 'a zero tally fed every event of an empty board's run'
+unfoldable pub tally-after-all : Board → List Call → Tally
+tally-after-all b cs = fed zero-tally (all-events b cs)
 
 -- the jobs of a grade on a board
 unfoldable pub on-board : ℕ → Board → ℕ
 on-board g b = how-many (λ (r : Job). eqb (r .grade) g) (held b)
 
--- 'From a zero tally fed every event of an empty board's run, admitted = baked + given up + racks on the board, for each grade.'
+-- 'admitted = baked + given up + racks on the board, for each grade', and no event is refused
 pub record Balanced (b : Board) (cs : List Call) : Type 0 where
-  pub taken : AllTaken zero-tally (noted-all b cs)
+  pub taken : all-taken zero-tally (all-events b cs) ≡ true
   pub balance : (g : ℕ) → g < 8
-      → count-at (fed zero-tally (noted-all b cs)) 0 g
-      ≡ count-at (fed zero-tally (noted-all b cs)) 1 g + count-at (fed zero-tally (noted-all b cs)) 2 g + on-board g (board-after-all b cs)
+      → count-at (tally-after-all b cs) admitted-kind g
+      ≡ count-at (tally-after-all b cs) baked-kind g + count-at (tally-after-all b cs) given-up-kind g + on-board g (board-after-all b cs)
 
 unfoldable pub Balance : Type 0
 Balance = (b : Board) → sound b ≡ true → b .count ≡ 0 → (cs : List Call) → Balanced b cs

@@ -3,4 +3,3 @@ pub mod DayBook
 pub mod OurPlan
 pub mod Demand3
 pub mod Balance
-pub mod Theorems

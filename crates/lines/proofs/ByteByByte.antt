@@ -1,8 +1,8 @@
 -- The program byte by byte prints the whole output.
-use mathlib.Core.Path.{_≡_, refl, sym, ap, ap₂, _∙_, subst}
-use mathlib.Core.Bool.{Bool, true, false, cond, not, _&&_}
+use mathlib.Core.Path.{_≡_, refl, sym, ap, ap₂, _∙_}
+use mathlib.Core.Bool.{true, false, not, _&&_}
 use mathlib.Core.Logic.{_⊎_, inl, inr}
-use mathlib.Core.List.{List, [], _∷_, _++_, append-assoc, append-nil}
+use mathlib.Core.List.{[], _∷_, _++_, append-assoc, append-nil}
 use Prim.Native.Nat.{ℕ, suc}
 use native.Mathlib.Omega.{arith}
 use lib.Dec.{eqb}
@@ -13,7 +13,7 @@ use Rattle.lists.proofs.Tests.{test, cond-true, cond-false}
 use Rattle.lists.proofs.Members.{every-append}
 use Rattle.lines.specs.Bytes.{Bytes, line-end, lines}
 use Rattle.lines.specs.Session.{Session, new-session, answer, at-end, output-from, output}
-use Rattle.lines.specs.Machine.{Machine, new-machine, hold, printed-by, after-byte, after-bytes, printed-along, printed-at-end}
+use Rattle.lines.specs.Machine.{Machine, new-machine, hold, printed-by, after-byte, after-bytes, printed-along, printed-at-end, ByteByByte}
 use Rattle.lines.proofs.Cutting.{one-line, lines-ended, lines-last, lines-none}
 use Rattle.lines.proofs.LongLines.{answer-first, hold-first}
 
@@ -68,6 +68,6 @@ along s i l (b ∷ bs) h = go (test (eqb b line-end)) (λ s i l h. along s i l b
         ∙ ih s i (l ++ (b ∷ [])) (every-append (λ c. not (eqb c line-end)) l (b ∷ []) h (ap (λ c. not c && true) e))
         ∙ ap₂ (λ (x : Bytes) (k : Machine). (x ++ printed-along k bs) ++ printed-at-end (after-bytes k bs)) (sym out) (sym next)
 
-pub byte-by-byte : (input : Bytes) → output input ≡ printed-along new-machine input ++ printed-at-end (after-bytes new-machine input)
-unfolding output new-machine
+pub byte-by-byte : ByteByByte
+unfolding ByteByByte output new-machine
 byte-by-byte input = along new-session 1 [] input (unfold every in refl)

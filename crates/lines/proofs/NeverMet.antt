@@ -11,10 +11,8 @@ use Rattle.lines.specs.NeverMet.{line-numbers, numbers-from, NeverMet}
 use Rattle.lines.proofs.NeverMet.Between.{InRun}
 use Rattle.lines.proofs.NeverMet.MayMeet.{may-meet}
 use Rattle.lines.proofs.NeverMet.Lines.{goes-line}
-pub mod OneMore
 pub mod Between
 pub mod MayMeet
-pub mod Events
 pub mod Calls
 pub mod Lines
 

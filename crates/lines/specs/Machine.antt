@@ -1,12 +1,13 @@
 -- The program byte by byte: what it holds between two bytes, and what each byte prints. Of a line the first 41 bytes are enough: a longer one is
--- refused whatever it holds. proofs/ has that this is the whole output.
-use mathlib.Core.Bool.{Bool, true, false, cond}
-use mathlib.Core.List.{List, [], _∷_, _++_}
+-- refused whatever it holds.
+use mathlib.Core.Path.{_≡_}
+use mathlib.Core.Bool.{cond}
+use mathlib.Core.List.{[], _∷_, _++_}
 use Prim.Native.Nat.{ℕ, suc}
 use lib.Dec.{leb, eqb}
 use lib.ListN.{length}
 use Rattle.lines.specs.Bytes.{Bytes, line-end}
-use Rattle.lines.specs.Session.{Session, new-session, answer, at-end}
+use Rattle.lines.specs.Session.{Session, new-session, answer, at-end, output}
 
 -- the session, the number of the line that is being read, and its bytes so far
 pub record Machine : Type 0 where
@@ -45,3 +46,7 @@ unfoldable pub printed-at-end : Machine → Bytes
 printed-at-end m =
     let a = answer (m .session) (m .number) (m .held) in
     cond (eqb (length (m .held)) 0) (at-end (m .session .board) (m .session .tally)) (a .output ++ at-end (a .session .board) (a .session .tally))
+
+-- bytes one after the other, and then the end of input, print the whole output
+unfoldable pub ByteByByte : Type 0
+ByteByByte = (input : Bytes) → output input ≡ printed-along new-machine input ++ printed-at-end (after-bytes new-machine input)

@@ -1,10 +1,9 @@
 -- A day: what each line prints and leaves, and the whole output.
 use mathlib.Core.Bool.{Bool, true, false, cond}
-use mathlib.Core.List.{List, [], _∷_, _++_, map}
+use mathlib.Core.List.{List, [], _∷_, _++_}
 use mathlib.Core.Option.{Option, none, some}
-use Prim.Native.Nat.{ℕ, zero, suc, _+_, _^_}
+use Prim.Native.Nat.{ℕ, zero, suc, _^_}
 use lib.Dec.{eqb}
-use lib.ListN.{length}
 use Rattle.rule.specs.Job.{Job}
 use Rattle.board.specs.declared.Board.{Board}
 use Rattle.board.specs.declared.Tally.{Tally}
@@ -12,7 +11,8 @@ use Rattle.board.specs.Limits.{places-held}
 use Rattle.board.specs.Open.{opened}
 use Rattle.board.specs.Admit.{admitted}
 use Rattle.board.specs.Close.{closed, given-up}
-use Rattle.board.specs.Tally.{zero-tally, counted, count-at}
+use Rattle.board.specs.Tally.{zero-tally, count-at}
+use Rattle.board.specs.Events.{admitted-kind, baked-kind, given-up-kind, admit-events, close-events, fed}
 use Rattle.lines.specs.Bytes.{Bytes, lines, letter-A, letter-B, letter-D, letter-G, letter-R, letter-T}
 use Rattle.lines.specs.Reading.{line-number, Request, open-board, admit-job, close-slot, request}
 use Rattle.lines.specs.Printing.{printed}
@@ -35,11 +35,6 @@ is-open (some b) = true
 unfoldable pub refused : Session → (line number : ℕ) → Answer
 refused s i n = record { output = printed letter-R (i ∷ n ∷ []); session = s }
 
--- one event for each job, of one kind
-unfoldable pub count-each : ℕ → List Job → Tally → Tally
-count-each k [] t = t
-count-each k (r ∷ A) t = count-each k A (counted t k (r .grade) .tally)
-
 -- `D,depth`
 unfoldable pub answer-open : Session → (line depth : ℕ) → Answer
 answer-open s i d =
@@ -53,17 +48,16 @@ unfoldable pub answer-admit : Session → Board → (line ticket laxity grade : 
 answer-admit s b i t w g =
     let r = admitted b t w g in
     cond (eqb (r .refusal) 0)
-    (record { output = printed letter-A (t ∷ r .last .0 ∷ []); session = record { board = some (r .board); tally = counted (s .tally) 0 g .tally } })
+    (record {
+      output = printed letter-A (t ∷ r .last .0 ∷ []);
+      session = record { board = some (r .board); tally = fed (s .tally) (admit-events b t w g) };
+    })
     (refused s i (r .refusal))
 
 -- 'for each of those `G,slot,ticket,grade`'. The lines are here in the board's order; 01 leaves the order open, and compares them as a set.
 unfoldable pub printed-gone : ℕ → List Job → Bytes
 printed-gone k [] = []
 printed-gone k (r ∷ A) = printed letter-G (k ∷ r .ticket ∷ r .grade ∷ []) ++ printed-gone k A
-
--- the job baked is an event, 'empty' is none
-unfoldable pub count-baked : (ticket grade : ℕ) → Tally → Tally
-count-baked t g y = cond (eqb t 0) y (counted y 1 g .tally)
 
 -- `B,slot,ticket,grade,number given up`, then the G lines
 unfoldable pub answer-close : Session → Board → (line : ℕ) → Answer
@@ -72,7 +66,7 @@ answer-close s b i =
     cond (eqb (r .refusal) 0)
     (record {
       output = printed letter-B (b .slot .0 ∷ r .ticket ∷ r .grade ∷ r .expired ∷ []) ++ printed-gone (b .slot .0) (given-up b);
-      session = record { board = some (r .board); tally = count-each 2 (given-up b) (count-baked (r .ticket) (r .grade) (s .tally)) };
+      session = record { board = some (r .board); tally = fed (s .tally) (close-events b places-held) };
     })
     (refused s i (r .refusal))
 
@@ -92,10 +86,14 @@ answer-if (suc n) s i l = refused s i (suc n)
 unfoldable pub answer : Session → (line : ℕ) → Bytes → Answer
 answer s i l = answer-if (line-number (is-open (s .board)) l) s i l
 
--- '`T,grade,admitted,baked,given up`': n grades from g on
+-- `T,grade,admitted,baked,given up`
+unfoldable pub tally-line : ℕ → Tally → Bytes
+tally-line g t = printed letter-T (g ∷ count-at t admitted-kind g ∷ count-at t baked-kind g ∷ count-at t given-up-kind g ∷ [])
+
+-- n grades from g on
 unfoldable pub printed-tally : ℕ → ℕ → Tally → Bytes
 printed-tally zero g t = []
-printed-tally (suc n) g t = printed letter-T (g ∷ count-at t 0 g ∷ count-at t 1 g ∷ count-at t 2 g ∷ []) ++ printed-tally n (suc g) t
+printed-tally (suc n) g t = tally-line g t ++ printed-tally n (suc g) t
 
 -- 'At the end, if a board is open, [..] for each grade from 0 to 2^D − 1'
 unfoldable pub at-end : Option Board → Tally → Bytes

@@ -5,9 +5,7 @@ use mathlib.Core.List.{List, [], _∷_, _++_}
 use mathlib.Core.Option.{none, some}
 use Prim.Native.Nat.{ℕ, _+_, _≤_}
 use lib.ListN.{length}
-use Rattle.board.specs.declared.Tally.{Tally}
 use Rattle.board.specs.Sound.{sound}
-use Rattle.board.specs.Tally.{counted}
 use Rattle.lines.specs.Bytes.{Bytes, letter-G}
 use Rattle.lines.specs.Printing.{printed}
 use Rattle.lines.specs.Session.{Session, Answer, answer}
@@ -45,8 +43,3 @@ unfoldable pub printed-each : ℕ → (tickets grades : List ℕ) → Bytes
 printed-each k [] G = []
 printed-each k (t ∷ T) [] = []
 printed-each k (t ∷ T) (g ∷ G) = printed letter-G (k ∷ t ∷ g ∷ []) ++ printed-each k T G
-
--- an event of one kind for each grade
-unfoldable pub count-grades : ℕ → List ℕ → Tally → Tally
-count-grades k [] t = t
-count-grades k (g ∷ G) t = count-grades k G (counted t k g .tally)

@@ -1,13 +1,15 @@
 // What a line does to the day, and what it prints.
 ghost use mathlib.Core.Path.{_≡_};
 ghost use mathlib.Core.Bool.{true};
+ghost use mathlib.Core.List.{map};
 ghost use Prim.Native.Nat.{_+_, _*_, _≤_};
 ghost use lib.ListN.{length, take};
 ghost use Rattle.board.specs.Tally.{counted};
+ghost use Rattle.board.specs.Events.{given-up-kind, event, baked-events, fed};
 ghost use Rattle.lines.specs.Printing.{printed};
-ghost use Rattle.lines.specs.Session.{refused, count-baked, answer-open, answer-admit, answer-close};
+ghost use Rattle.lines.specs.Session.{refused, answer-open, answer-admit, answer-close};
 ghost use Rattle.printing.specs.Lines.{put};
-ghost use Rattle.program.specs.Days.{session-of, GoodDay, line-room, Given, Answered, printed-each, count-grades};
+ghost use Rattle.program.specs.Days.{session-of, GoodDay, line-room, Given, Answered, printed-each};
 use board::Board;
 use board::Laxity;
 use board::Tally;
@@ -131,7 +133,7 @@ fn say_gone(slot: u32, tickets: &[u32], grades: &[u8], out: &mut [u8], at: usize
 
 // Counts the job baked, if there is one.
 fn count_baked(t: Tally, ticket: u32, grade: u8) -> Tally
-    ensures { λ r. ⌜ r ≡ count-baked ticket grade t ⌝ }
+    ensures { λ r. ⌜ r ≡ fed t (baked-events ticket grade) ⌝ }
 {
     if ticket == 0 {
         return t;
@@ -141,7 +143,7 @@ fn count_baked(t: Tally, ticket: u32, grade: u8) -> Tally
 
 // Counts the jobs given up.
 fn count_gone(t: Tally, grades: &[u8]) -> Tally
-    ensures { λ r. ⌜ r ≡ count-grades 2 (now (grades .entry)) t ⌝ }
+    ensures { λ r. ⌜ r ≡ fed t (map (event given-up-kind) (now (grades .entry))) ⌝ }
 {
     let mut tally = t;
     let mut i: usize = 0;

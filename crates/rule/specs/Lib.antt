@@ -3,3 +3,4 @@ pub mod Grade
 pub mod Tight
 pub mod Descent
 pub mod Bake
+pub mod Worked

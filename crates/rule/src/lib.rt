@@ -1,1 +1,1 @@
-// Theory only: the no-regret rule. The definitions are in specs/, their laws and the worked boards in proofs/.
+// Theory only: the no-regret rule. The definitions and the worked boards are in specs/, their laws in proofs/.

@@ -1,7 +1,7 @@
 -- The jobs that a rule has left where a book is cut: their tickets rise, and their grades are fit.
-use mathlib.Core.Path.{_≡_, refl, sym, ap, _∙_}
-use mathlib.Core.Bool.{Bool, true, _&&_}
-use mathlib.Core.List.{List, [], _∷_, _++_, List·Memᴰ, List·Memᴰ·head, List·Memᴰ·tail}
+use mathlib.Core.Path.{_≡_, refl, ap, _∙_}
+use mathlib.Core.Bool.{true}
+use mathlib.Core.List.{List, [], _∷_, List·Memᴰ·head, List·Memᴰ·tail}
 use Prim.Native.Nat.{ℕ, _^_}
 use lib.Dec.{ltb}
 use native.Mathlib.Nat.{mod-eq-of-lt}
@@ -13,7 +13,7 @@ use Rattle.rule.specs.Job.{Job}
 use Rattle.rule.specs.Grade.{bits}
 use Rattle.rule.proofs.Bits.Number.{length-bits, number-bits}
 use Rattle.rule.proofs.NoRegret.Items.{items}
-use Rattle.books.specs.Book.{Beginning, Event, end-slot, raised}
+use Rattle.books.specs.Book.{Beginning, Change, end-slot, raised}
 use Rattle.books.specs.Rule.{Rule}
 use Rattle.books.specs.Rival.{Setting, fit, lifted, Tried}
 use Rattle.books.proofs.Walks.Left.{Left, begun-left}
@@ -37,7 +37,7 @@ all-allowed S (r ∷ L) f = (
   all-allowed S L (λ x m. f x (List·Memᴰ·tail m)),
 )
 
-module _ (S : Setting) (q : Rule) (b : Beginning) (pre post : List Event) (T : Tried S (staged b pre post)) where
+module _ (S : Setting) (q : Rule) (b : Beginning) (pre post : List Change) (T : Tried S (staged b pre post)) where
   before : lifted S (b .highest) pre ≡ true
   before = lifted-append S (b .highest) pre (end-slot ∷ post) (T .later) .0
 

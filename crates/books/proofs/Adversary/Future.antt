@@ -1,20 +1,20 @@
--- Items as events: each enters as a job with a new ticket, and each list after the first comes behind a closing.
-use mathlib.Core.Path.{_≡_, refl, sym, ap, ap₂, _∙_, subst}
-use mathlib.Core.Bool.{Bool, true, false, _&&_}
+-- Items as changes: each enters as a job with a new ticket, and each list after the first comes behind a closing.
+use mathlib.Core.Path.{_≡_, refl, ap, ap₂, _∙_, subst}
+use mathlib.Core.Bool.{true, _&&_}
 use mathlib.Core.List.{List, [], _∷_, _++_, append-nil}
-use Prim.Native.Nat.{ℕ, zero, suc, _+_, _-_, _≤_, _<_}
+use Prim.Native.Nat.{ℕ, suc, _+_, _-_}
 use native.Mathlib.Omega.{arith}
-use lib.Dec.{leb, ltb}
+use lib.Dec.{ltb}
 use lib.ListN.{length}
 use borrow.Author.Tests.{le-leb, lt-ltb}
 use Rattle.lists.proofs.Tests.{and-intro}
 use Rattle.heights.proofs.Items.Item.{Item, Each}
 use Rattle.heights.proofs.Adversary.Allowed.{Grades, Fit, AllFit}
-use Rattle.rule.specs.Job.{Job, job}
+use Rattle.rule.specs.Job.{job}
 use Rattle.rule.specs.Grade.{bits}
 use Rattle.rule.proofs.Bits.Number.{number, bits-number}
 use Rattle.rule.proofs.NoRegret.Items.{item, items}
-use Rattle.books.specs.Book.{Event, enter, end-slot, closings}
+use Rattle.books.specs.Book.{Change, enter, end-slot}
 use Rattle.books.specs.Rival.{Setting, fit, any-laxity, lifted}
 use Rattle.books.proofs.Walks.Groups.{first, later}
 use Rattle.books.proofs.Runs.AnyRun.{groups}
@@ -23,11 +23,11 @@ use Rattle.books.proofs.Runs.AnyRun.{groups}
 unfoldable pub ok : Setting → Grades
 ok S w = fit S (number w)
 
-unfoldable pub enter-all : ℕ → ℕ → List Item → List Event → List Event
+unfoldable pub enter-all : ℕ → ℕ → List Item → List Change → List Change
 enter-all h s [] es = es
 enter-all h s (p ∷ F) es = enter (suc h) (p .last + 1 - s) (number (p .grade)) ∷ enter-all (suc h) s F es
 
-unfoldable pub future : ℕ → ℕ → List Item → List (List Item) → List Event
+unfoldable pub future : ℕ → ℕ → List Item → List (List Item) → List Change
 future h s F [] = enter-all h s F []
 future h s F (G ∷ fs) = enter-all h s F (end-slot ∷ future (h + length F) (suc s) G fs)
 
@@ -35,7 +35,7 @@ module _ (S : Setting) where
   abbrev d : ℕ
   d = S .depth
 
-  enter-lifted : (h s : ℕ) (F : List Item) (es : List Event) → Each (Fit (ok S) d s) F → lifted S (h + length F) es ≡ true → lifted S h (enter-all h s F es) ≡ true
+  enter-lifted : (h s : ℕ) (F : List Item) (es : List Change) → Each (Fit (ok S) d s) F → lifted S (h + length F) es ≡ true → lifted S h (enter-all h s F es) ≡ true
   unfolding enter-all lifted any-laxity Each ok
   enter-lifted h s [] es f e = subst (λ n. lifted S n es ≡ true) (let z : h + 0 ≡ h = omega arith in z) e
   enter-lifted h s (p ∷ F) es f e =
@@ -58,12 +58,12 @@ module _ (S : Setting) where
       let g = bits-number d (p .grade) (f .allowed .bits) in
       λ i. record { last = l i; grade = g i }
 
-  enter-first : (h s : ℕ) (F : List Item) (es : List Event) → Each (Fit (ok S) d s) F → items d (first s (enter-all h s F es)) ≡ F ++ items d (first s es)
+  enter-first : (h s : ℕ) (F : List Item) (es : List Change) → Each (Fit (ok S) d s) F → items d (first s (enter-all h s F es)) ≡ F ++ items d (first s es)
   unfolding enter-all first items Each
   enter-first h s [] es f = refl
   enter-first h s (p ∷ F) es f = ap₂ _∷_ (as-item h s p (f .0)) (enter-first (suc h) s F es (f .1))
 
-  enter-later : (h s : ℕ) (F : List Item) (es : List Event) → later s (enter-all h s F es) ≡ later s es
+  enter-later : (h s : ℕ) (F : List Item) (es : List Change) → later s (enter-all h s F es) ≡ later s es
   unfolding enter-all later
   enter-later h s [] es = refl
   enter-later h s (p ∷ F) es = enter-later (suc h) s F es

@@ -1,12 +1,11 @@
 -- While the rule that follows q does so, both bake the same jobs and have the same left.
-use mathlib.Core.Path.{_≡_, refl, sym, ap, _∙_, subst}
-use mathlib.Core.Option.{Option}
+use mathlib.Core.Path.{_≡_, refl, ap, _∙_, subst}
 use mathlib.Core.List.{List, [], _∷_, _++_}
-use Prim.Native.Nat.{ℕ, suc, _+_, _≤_, _<_}
+use Prim.Native.Nat.{ℕ, suc, _+_, _≤_}
 use native.Mathlib.Omega.{arith}
 use lib.ListN.{length, length-append}
 use Rattle.rule.specs.Job.{Job, job}
-use Rattle.books.specs.Book.{Beginning, Event, enter, end-slot}
+use Rattle.books.specs.Book.{Beginning, Change, enter, end-slot}
 use Rattle.books.specs.Rule.{Rule, valid, without}
 use Rattle.books.specs.NoRegretRule.{Choice, by-choice}
 use Rattle.books.proofs.Walks.ByChoice.{Reached, reached-enter, reached-end, names}
@@ -21,12 +20,12 @@ module _ (d : ℕ) (b : Beginning) (n : ℕ) (q : Rule) where
   abbrev σ : Rule
   σ = by-choice f
 
-  pub record Locked (past : List Event) (s : ℕ) (left : List Job) (pre : List Event) : Type 0 where
+  pub record Locked (past : List Change) (s : ℕ) (left : List Job) (pre : List Change) : Type 0 where
     pub same-left : left-after σ d b past s left pre ≡ left-after q d b past s left pre
     pub same-picks : picks σ d b past s left pre ≡ picks q d b past s left pre
     pub reached : Reached f d b (past-after past pre) (slot-after s pre) (left-after q d b past s left pre)
 
-  pub lock : (past : List Event) (s : ℕ) (left : List Job) (pre : List Event) → Reached f d b past s left → length past + length pre ≤ n → Locked past s left pre
+  pub lock : (past : List Change) (s : ℕ) (left : List Job) (pre : List Change) → Reached f d b past s left → length past + length pre ≤ n → Locked past s left pre
   unfolding past-after slot-after left-after picks
   lock past s left [] r h = record { same-left = refl; same-picks = refl; reached = r }
   lock past s left (enter t w g ∷ pre) r h =

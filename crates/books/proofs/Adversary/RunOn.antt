@@ -1,7 +1,6 @@
 -- A rule that keeps to order i runs in order i on the future that lists of items make.
-use mathlib.Core.Path.{_≡_, refl, sym, ap, _∙_, subst₂}
-use mathlib.Core.Bool.{true}
-use mathlib.Core.List.{List, [], _∷_, _++_}
+use mathlib.Core.Path.{_≡_, sym, ap, _∙_, subst₂}
+use mathlib.Core.List.{List, _++_}
 use Prim.Native.Nat.{ℕ, suc, _≤_}
 use lib.ListN.{take}
 use lib.Seq.{take-length}
@@ -13,7 +12,7 @@ use Rattle.heights.proofs.Adversary.Allowed.{Fit, AllFit}
 use Rattle.rule.specs.Job.{Job}
 use Rattle.rule.specs.Grade.{graded}
 use Rattle.rule.proofs.NoRegret.Items.{items}
-use Rattle.books.specs.Book.{Beginning, Event, closings}
+use Rattle.books.specs.Book.{Beginning, Change, closings}
 use Rattle.books.specs.Rule.{Rule}
 use Rattle.books.specs.Rival.{Setting}
 use Rattle.books.specs.NoRegretRule.{KeepsAlong}
@@ -25,12 +24,12 @@ use Rattle.books.proofs.Runs.AnyRun.{items-append, groups}
 use Rattle.books.proofs.Runs.KeptRuns.{tree-run}
 use Rattle.books.proofs.Adversary.Future.{ok, future, future-lifted, future-first, future-later}
 
-module _ (S : Setting) (b : Beginning) (past : List Event) (s h : ℕ) (F : List Item) (fs : List (List Item)) (ff : Each (Fit (ok S) (S .depth) s) F)
+module _ (S : Setting) (b : Beginning) (past : List Change) (s h : ℕ) (F : List Item) (fs : List (List Item)) (ff : Each (Fit (ok S) (S .depth) s) F)
     (fl : AllFit (ok S) (S .depth) (suc s) fs) where
   abbrev d : ℕ
   d = S .depth
 
-  abbrev E : List Event
+  abbrev E : List Change
   E = future h s F fs
 
   pub run-on : (i : ℕ) → i ≤ d → (r : Rule) (K : List Job) → Left h K → KeepsAlong i r d b past s K E

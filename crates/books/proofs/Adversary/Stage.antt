@@ -1,20 +1,20 @@
 -- A book cut at a closing and gone on with as an adversary likes, and what any rule bakes on it: before that closing, in it, and after.
-use mathlib.Core.Path.{_≡_, refl, sym, ap, _∙_, subst}
-use mathlib.Core.Bool.{Bool, true, false}
+use mathlib.Core.Path.{_≡_, sym, ap, _∙_}
+use mathlib.Core.Bool.{Bool, true}
 use mathlib.Core.Option.{Option}
 use mathlib.Core.List.{List, [], _∷_, _++_}
-use Prim.Native.Nat.{ℕ, zero, suc, _+_, _≤_, _<_}
+use Prim.Native.Nat.{ℕ, suc, _+_}
 use native.Mathlib.Omega.{arith}
 use lib.ListN.{length}
 use Rattle.lists.specs.Select.{one-if}
 use Rattle.rule.specs.Job.{Job}
-use Rattle.books.specs.Book.{Beginning, Event, end-slot, Book, closed, closings, raised}
+use Rattle.books.specs.Book.{Beginning, Change, end-slot, Book, closed, closings, raised}
 use Rattle.books.specs.Schedule.{baked-in}
 use Rattle.books.specs.Rule.{Rule, valid, without, made-by}
 use Rattle.books.specs.Rival.{Setting, lifted, Tried}
 use Rattle.books.proofs.Walks.Groups.{closings-append}
 use Rattle.books.proofs.Walks.Picks.{found, picks}
-use Rattle.books.proofs.Schedules.Counts.{passes, tally, picks-on, baked-tally}
+use Rattle.books.proofs.Schedules.Counts.{passes, tally, baked-tally}
 use Rattle.books.proofs.Walks.Positions.{past-after, slot-after, left-after, picks-append, picks-length, lifted-append, lifted-join}
 
 -- a list in two parts
@@ -27,11 +27,11 @@ tally-append test (x ∷ xs) ys i =
     omega (arith, tally-append test xs ys i)
     in z)
 
--- the book b, pre, a closing, and the events E
-abbrev pub staged : Beginning → List Event → List Event → Book
-staged b pre E = record { beginning = b; events = pre ++ (end-slot ∷ E) }
+-- the book b, pre, a closing, and the changes E
+abbrev pub staged : Beginning → List Change → List Change → Book
+staged b pre E = record { beginning = b; changes = pre ++ (end-slot ∷ E) }
 
-pub staged-tried : (S : Setting) (b : Beginning) (pre post E : List Event) → Tried S (staged b pre post) → lifted S (raised (b .highest) pre) E ≡ true
+pub staged-tried : (S : Setting) (b : Beginning) (pre post E : List Change) → Tried S (staged b pre post) → lifted S (raised (b .highest) pre) E ≡ true
     → Tried S (staged b pre E)
 unfolding lifted
 staged-tried S b pre post E T e =
@@ -41,13 +41,13 @@ staged-tried S b pre post E T e =
       later = lifted-join S (b .highest) pre (end-slot ∷ E) (lifted-append S (b .highest) pre (end-slot ∷ post) (T .later) .0) e;
     }
 
-pub staged-closed : (b : Beginning) (pre E : List Event) → closed (staged b pre E) ≡ closings pre + suc (closings E)
+pub staged-closed : (b : Beginning) (pre E : List Change) → closed (staged b pre E) ≡ closings pre + suc (closings E)
 unfolding closed closings
 staged-closed b pre E = closings-append pre (end-slot ∷ E)
 
-module _ (r : Rule) (d : ℕ) (b : Beginning) (pre : List Event) where
+module _ (r : Rule) (d : ℕ) (b : Beginning) (pre : List Change) where
   -- where the rule stands at the closing
-  abbrev pub past-at : List Event
+  abbrev pub past-at : List Change
   past-at = past-after [] pre
 
   abbrev pub slot-at : ℕ
@@ -65,11 +65,11 @@ module _ (r : Rule) (d : ℕ) (b : Beginning) (pre : List Event) where
   abbrev pub picks-before : List (Option Job)
   picks-before = picks r d b [] (b .slot) (b .jobs) pre
 
-  abbrev pub picks-after : List Event → List (Option Job)
+  abbrev pub picks-after : List Change → List (Option Job)
   picks-after E = picks r d b (past-at ++ (end-slot ∷ [])) (suc slot-at) rest-at E
 
   -- what it bakes of a test: before, in the closing, and in i slots after
-  pub staged-count : (S : Setting) (E : List Event) → Tried S (staged b pre E) → (test : Job → Bool) (i : ℕ)
+  pub staged-count : (S : Setting) (E : List Change) → Tried S (staged b pre E) → (test : Job → Bool) (i : ℕ)
       → baked-in test (staged b pre E) (made-by r d (staged b pre E)) (closings pre + suc i)
       ≡ tally test picks-before (closings pre) + (one-if (passes test baked-at) + tally test (picks-after E) i)
   unfolding picks tally

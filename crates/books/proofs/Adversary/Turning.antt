@@ -1,14 +1,14 @@
 -- The rule that follows q up to a closing and is ours from that closing on: what it has there, and what it bakes.
-use mathlib.Core.Path.{_≡_, refl, sym, ap, ap₂, _∙_, subst}
-use mathlib.Core.Bool.{Bool, true, false}
+use mathlib.Core.Path.{_≡_, ap, ap₂, _∙_, subst}
+use mathlib.Core.Bool.{Bool, true}
 use mathlib.Core.Option.{Option}
 use mathlib.Core.List.{List, [], _∷_, _++_}
-use Prim.Native.Nat.{ℕ, zero, suc, _+_, _≤_, _<_}
+use Prim.Native.Nat.{ℕ, suc, _+_, _≤_}
 use native.Mathlib.Omega.{arith}
 use lib.ListN.{length}
 use Rattle.lists.specs.Select.{one-if}
 use Rattle.rule.specs.Job.{Job}
-use Rattle.books.specs.Book.{Beginning, Event, end-slot, closings}
+use Rattle.books.specs.Book.{Beginning, Change, end-slot, closings}
 use Rattle.books.specs.Schedule.{baked-in}
 use Rattle.books.specs.Rule.{Rule, valid, without, made-by}
 use Rattle.books.specs.Rival.{Setting, lifted, Tried}
@@ -17,20 +17,20 @@ use Rattle.books.proofs.Walks.ByChoice.{Reached, reached-start, reached
 use Rattle.books.proofs.Walks.Left.{Left}
 use Rattle.books.proofs.Walks.Picks.{found, picks}
 use Rattle.books.proofs.Schedules.Counts.{passes, tally}
-use Rattle.books.proofs.Walks.Positions.{past-after, past-all}
+use Rattle.books.proofs.Walks.Positions.{past-all}
 use Rattle.books.proofs.Choices.KeptChoice.{kept-later, kept-from}
 use Rattle.books.proofs.Choices.Follow.{follow, after-n, kept-after-n}
 use Rattle.books.proofs.Adversary.Lockstep.{Locked, lock}
-use Rattle.books.proofs.Adversary.Stage.{staged, past-at, slot-at, left-at, baked-at, rest-at, picks-before, picks-after, staged-count}
+use Rattle.books.proofs.Adversary.Stage.{staged, past-at, slot-at, left-at, picks-before, staged-count}
 
-module _ (q : Rule) (d : ℕ) (b : Beginning) (pre : List Event) where
+module _ (q : Rule) (d : ℕ) (b : Beginning) (pre : List Change) where
   abbrev f : Choice
   f = follow (length pre) q
 
   abbrev pub turned : Rule
   turned = by-choice f
 
-  abbrev past : List Event
+  abbrev past : List Change
   past = past-at q d b pre
 
   abbrev s : ℕ
@@ -58,11 +58,11 @@ module _ (q : Rule) (d : ℕ) (b : Beginning) (pre : List Event) where
   choice : turned d b past ≡ ours-at
   choice = names f d b past s L (locked .reached) ∙ here
 
-  abbrev pub turned-after : List Event → List (Option Job)
+  abbrev pub turned-after : List Change → List (Option Job)
   turned-after E = picks turned d b (past ++ (end-slot ∷ [])) (suc s) ours-rest E
 
   -- the same before, our choice there
-  pub turned-count : (S : Setting) (E : List Event) → Tried S (staged b pre E) → (test : Job → Bool) (i : ℕ)
+  pub turned-count : (S : Setting) (E : List Change) → Tried S (staged b pre E) → (test : Job → Bool) (i : ℕ)
       → baked-in test (staged b pre E) (made-by turned d (staged b pre E)) (closings pre + suc i)
       ≡ tally test (picks-before q d b pre) (closings pre) + (one-if (passes test (found s L ours-at)) + tally test (turned-after E) i)
   turned-count S E T test i =
@@ -79,7 +79,7 @@ module _ (q : Rule) (d : ℕ) (b : Beginning) (pre : List Event) where
       choice
 
   -- it keeps to the sets of every order from there on
-  pub turned-keeps : (S : Setting) (j : ℕ) → j ≤ d → (E : List Event) (h : ℕ) → Left h ours-rest → lifted S h E ≡ true
+  pub turned-keeps : (S : Setting) (j : ℕ) → j ≤ d → (E : List Change) (h : ℕ) → Left h ours-rest → lifted S h E ≡ true
       → KeepsAlong j turned d b (past ++ (end-slot ∷ [])) (suc s) ours-rest E
   turned-keeps S j k E h l e =
       kept-from S j d b f (past ++ (end-slot ∷ [])) (suc s) ours-rest E h l e

@@ -1,6 +1,6 @@
--- The rule that follows another for its first n events and is ours from then on. It keeps to the no-regret sets of order j if the other does.
-use mathlib.Core.Path.{_≡_, refl, sym, ap, _∙_, subst}
-use mathlib.Core.Bool.{Bool, true, false, cond}
+-- The rule that follows another for its first n changes and is ours from then on. It keeps to the no-regret sets of order j if the other does.
+use mathlib.Core.Path.{_≡_, sym, ap, _∙_, subst}
+use mathlib.Core.Bool.{true, cond}
 use mathlib.Core.Logic.{_⊎_, inl, inr}
 use mathlib.Core.List.{List, [], _∷_, _++_}
 use Prim.Native.Nat.{ℕ, suc, _≤_, _<_}
@@ -10,9 +10,9 @@ use lib.ListN.{length, length-append}
 use borrow.Author.Tests.{lt-ltb, le-ltb}
 use Rattle.lists.proofs.Tests.{cmp, cond-true, cond-false}
 use Rattle.rule.specs.Job.{Job, job}
-use Rattle.books.specs.Book.{Beginning, Event, enter, end-slot, Book}
+use Rattle.books.specs.Book.{Beginning, Change, enter, end-slot}
 use Rattle.books.specs.Rule.{Rule, valid, without}
-use Rattle.books.specs.Rival.{Setting, lifted, Tried}
+use Rattle.books.specs.Rival.{Setting, lifted}
 use Rattle.books.specs.NoRegretRule.{Choice, by-choice, our-choice, keeps-at, EachClosing, KeepsAlong, Keeps}
 use Rattle.books.proofs.Walks.ByChoice.{Reached, reached-start, reached-enter, reached-end, names}
 use Rattle.books.proofs.Walks.Left.{Left, enters, ends, left-enter, left-without, begun-left}
@@ -23,13 +23,13 @@ use Rattle.books.proofs.Choices.KeptChoice.{KeptAfter, kept-from}
 unfoldable pub follow : ℕ → Rule → Choice
 follow n q d b past s left = cond (ltb (length past) n) (q d b past) (our-choice d b past s left)
 
--- the rule that follows q for n events: after them it is ours, before it is q
-pub after-n : (d : ℕ) (b : Beginning) (n : ℕ) (q : Rule) (past : List Event) (t : ℕ) (L : List Job) → n ≤ length past
+-- the rule that follows q for n changes: after them it is ours, before it is q
+pub after-n : (d : ℕ) (b : Beginning) (n : ℕ) (q : Rule) (past : List Change) (t : ℕ) (L : List Job) → n ≤ length past
     → follow n q d b past t L ≡ our-choice d b past t L
 unfolding follow
 after-n d b n q past t L h = cond-false (ltb (length past) n) (q d b past) (our-choice d b past t L) (le-ltb (length past) n h)
 
-pub kept-after-n : (j d : ℕ) (b : Beginning) (n : ℕ) (q : Rule) (past : List Event) → j ≤ d → n ≤ length past → KeptAfter j (follow n q) d b past
+pub kept-after-n : (j d : ℕ) (b : Beginning) (n : ℕ) (q : Rule) (past : List Change) → j ≤ d → n ≤ length past → KeptAfter j (follow n q) d b past
 kept-after-n j d b n q past k i =
     record {
       at =
@@ -37,7 +37,7 @@ kept-after-n j d b n q past k i =
           subst (Kept j d t L) (sym (after-n d b n q (past ++ more) t L (omega (arith, length-append past more)))) (ours-kept j d b (past ++ more) t h L k l);
     }
 
-pub before-n : (d : ℕ) (b : Beginning) (n : ℕ) (q : Rule) (past : List Event) (s : ℕ) (left : List Job) → length past < n → follow n q d b past s left ≡ q d b past
+pub before-n : (d : ℕ) (b : Beginning) (n : ℕ) (q : Rule) (past : List Change) (s : ℕ) (left : List Job) → length past < n → follow n q d b past s left ≡ q d b past
 unfolding follow
 before-n d b n q past s left h = cond-true (ltb (length past) n) (q d b past) (our-choice d b past s left) (lt-ltb (length past) n h)
 
@@ -45,7 +45,7 @@ module _ (S : Setting) (j d : ℕ) (b : Beginning) (k : j ≤ d) (n : ℕ) (q : 
   abbrev f : Choice
   f = follow n q
 
-  follow-along : (past : List Event) (s : ℕ) (left : List Job) (es : List Event) (h : ℕ) → Left h left → lifted S h es ≡ true → Reached f d b past s left
+  follow-along : (past : List Change) (s : ℕ) (left : List Job) (es : List Change) (h : ℕ) → Left h left → lifted S h es ≡ true → Reached f d b past s left
       → KeepsAlong j q d b past s left es → KeepsAlong j (by-choice f) d b past s left es
   unfolding EachClosing
   follow-along past s left [] h l e r a = tt
@@ -76,5 +76,5 @@ module _ (S : Setting) (j d : ℕ) (b : Beginning) (k : j ≤ d) (n : ℕ) (q : 
 pub follow-keeps : (S : Setting) (j n : ℕ) (q : Rule) → j ≤ S .depth → Keeps S j q → Keeps S j (by-choice (follow n q))
 unfolding Keeps
 follow-keeps S j n q k a B T =
-    follow-along S j (S .depth) (B .beginning) k n q [] (B .beginning .slot) (B .beginning .jobs) (B .events) (B .beginning .highest)
+    follow-along S j (S .depth) (B .beginning) k n q [] (B .beginning .slot) (B .beginning .jobs) (B .changes) (B .beginning .highest)
     (begun-left S (B .beginning) (T .present)) (T .later) (reached-start (follow n q) (S .depth) (B .beginning)) (a B T)

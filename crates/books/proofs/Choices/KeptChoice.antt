@@ -1,32 +1,32 @@
--- A rule by choice keeps to the no-regret sets of order j, from some events on, if its choice does at every closing after them.
-use mathlib.Core.Path.{_≡_, refl, sym, subst}
+-- A rule by choice keeps to the no-regret sets of order j, from some changes on, if its choice does at every closing after them.
+use mathlib.Core.Path.{_≡_, sym, subst}
 use mathlib.Core.List.{List, [], _∷_, _++_, append-assoc, append-nil}
 use mathlib.Core.Bool.{true}
 use Prim.Native.Nat.{ℕ, suc, _≤_}
 use Rattle.rule.specs.Job.{Job, job}
-use Rattle.books.specs.Book.{Beginning, Event, enter, end-slot, Book}
+use Rattle.books.specs.Book.{Beginning, Change, enter, end-slot}
 use Rattle.books.specs.Rule.{valid, without}
-use Rattle.books.specs.Rival.{Setting, lifted, Tried}
+use Rattle.books.specs.Rival.{Setting, lifted}
 use Rattle.books.specs.NoRegretRule.{Choice, by-choice, our-choice, our-rule, EachClosing, KeepsAlong, Keeps}
 use Rattle.books.proofs.Walks.ByChoice.{Reached, reached-start, reached-enter, reached-end, names}
 use Rattle.books.proofs.Walks.Left.{Left, enters, ends, left-enter, left-without, begun-left}
 use Rattle.books.proofs.Runs.Kept.{Kept, kept-at}
 use Rattle.books.proofs.Choices.OurChoice.{ours-kept}
 
--- at every closing after the events past, whatever comes
-pub record KeptAfter (j : ℕ) (f : Choice) (d : ℕ) (b : Beginning) (past : List Event) : Type 0 where
-  pub at : (more : List Event) (t h : ℕ) (L : List Job) → Left h L → Kept j d t L (f d b (past ++ more) t L)
+-- at every closing after the changes past, whatever comes
+pub record KeptAfter (j : ℕ) (f : Choice) (d : ℕ) (b : Beginning) (past : List Change) : Type 0 where
+  pub at : (more : List Change) (t h : ℕ) (L : List Job) → Left h L → Kept j d t L (f d b (past ++ more) t L)
 
-pub kept-later : {j : ℕ} {f : Choice} {d : ℕ} {b : Beginning} (past : List Event) (e : Event) → KeptAfter j f d b past → KeptAfter j f d b (past ++ (e ∷ []))
+pub kept-later : {j : ℕ} {f : Choice} {d : ℕ} {b : Beginning} (past : List Change) (e : Change) → KeptAfter j f d b past → KeptAfter j f d b (past ++ (e ∷ []))
 kept-later {j} {f} {d} {b} past e k =
-    record { at = λ more t h L l. subst (λ (X : List Event). Kept j d t L (f d b X t L)) (sym (append-assoc past (e ∷ []) more)) (k .at (e ∷ more) t h L l) }
+    record { at = λ more t h L l. subst (λ (X : List Change). Kept j d t L (f d b X t L)) (sym (append-assoc past (e ∷ []) more)) (k .at (e ∷ more) t h L l) }
 
-pub kept-here : {j : ℕ} {f : Choice} {d : ℕ} {b : Beginning} (past : List Event) → KeptAfter j f d b past → (s h : ℕ) (left : List Job) → Left h left
+pub kept-here : {j : ℕ} {f : Choice} {d : ℕ} {b : Beginning} (past : List Change) → KeptAfter j f d b past → (s h : ℕ) (left : List Job) → Left h left
     → Kept j d s left (f d b past s left)
-kept-here {j} {f} {d} {b} past k s h left l = subst (λ (X : List Event). Kept j d s left (f d b X s left)) (append-nil past) (k .at [] s h left l)
+kept-here {j} {f} {d} {b} past k s h left l = subst (λ (X : List Change). Kept j d s left (f d b X s left)) (append-nil past) (k .at [] s h left l)
 
 module _ (S : Setting) (j d : ℕ) (b : Beginning) (f : Choice) where
-  pub kept-from : (past : List Event) (s : ℕ) (left : List Job) (es : List Event) (h : ℕ) → Left h left → lifted S h es ≡ true → Reached f d b past s left
+  pub kept-from : (past : List Change) (s : ℕ) (left : List Job) (es : List Change) (h : ℕ) → Left h left → lifted S h es ≡ true → Reached f d b past s left
       → KeptAfter j f d b past → KeepsAlong j (by-choice f) d b past s left es
   unfolding EachClosing
   kept-from past s left [] h l e r k = tt
@@ -45,11 +45,11 @@ module _ (S : Setting) (j d : ℕ) (b : Beginning) (f : Choice) where
 
 -- a choice that keeps at every closing of every book
 pub choice-keeps : (S : Setting) (j : ℕ) (f : Choice)
-    → ((b : Beginning) (past : List Event) (t h : ℕ) (L : List Job) → Left h L → Kept j (S .depth) t L (f (S .depth) b past t L)) → Keeps S j (by-choice f)
+    → ((b : Beginning) (past : List Change) (t h : ℕ) (L : List Job) → Left h L → Kept j (S .depth) t L (f (S .depth) b past t L)) → Keeps S j (by-choice f)
 unfolding Keeps
 choice-keeps S j f k B T =
     let b = B .beginning in
-    kept-from S j (S .depth) b f [] (b .slot) (b .jobs) (B .events) (b .highest) (begun-left S b (T .present)) (T .later) (reached-start f (S .depth) b)
+    kept-from S j (S .depth) b f [] (b .slot) (b .jobs) (B .changes) (b .highest) (begun-left S b (T .present)) (T .later) (reached-start f (S .depth) b)
     (record { at = λ more t h L l. k b more t h L l })
 
 -- ours keeps to the no-regret sets of every order

@@ -1,22 +1,21 @@
 -- Our choice is a job of the no-regret set of every order, whenever one is in date.
 use mathlib.Core.Path.{_≡_, refl, sym, subst}
-use mathlib.Core.Bool.{Bool, true, false}
+use mathlib.Core.Bool.{true, false}
 use mathlib.Core.Logic.{_⊎_, inl, inr}
 use mathlib.Core.Option.{Option, none, some}
-use mathlib.Core.List.{List, [], _∷_, List·Memᴰ, List·Memᴰ·not-nil}
+use mathlib.Core.List.{List, [], List·Memᴰ, List·Memᴰ·not-nil}
 use Prim.Native.Nat.{ℕ, zero, suc, _+_, _-_, _≤_}
 use native.Mathlib.Omega.{arith}
-use Rattle.lists.specs.Select.{select, has}
+use Rattle.lists.specs.Select.{select}
 use Rattle.lists.proofs.Tests.{test}
 use Rattle.lists.proofs.Members.{mem-select, none-has}
 use Rattle.rule.specs.Job.{Job, in-date}
 use Rattle.rule.specs.Descent.{no-regret-after, no-regret}
 use Rattle.rule.specs.Bake.{baked, ticket-of}
-use Rattle.rule.proofs.Earliest.{SoonestOf}
 use Rattle.rule.proofs.NoRegret.Within.{baked-is, baked-none}
 use Rattle.rule.proofs.NoRegret.Order.{after-wider}
 use Rattle.rule.proofs.Tight.Counts.{in-date-all}
-use Rattle.books.specs.Book.{Beginning, Event}
+use Rattle.books.specs.Book.{Beginning, Change}
 use Rattle.books.specs.NoRegretRule.{our-choice}
 use Rattle.books.proofs.Walks.Tickets.{rising-above}
 use Rattle.books.proofs.Walks.Left.{Left}
@@ -51,7 +50,7 @@ unfolding no-regret
 baked-last s d A p e = baked-is s d A p e .member
 
 -- our choice is of every order
-pub ours-kept : (j d : ℕ) (b : Beginning) (past : List Event) (s h : ℕ) (left : List Job) → j ≤ d → Left h left → Kept j d s left (our-choice d b past s left)
+pub ours-kept : (j d : ℕ) (b : Beginning) (past : List Change) (s h : ℕ) (left : List Job) → j ≤ d → Left h left → Kept j d s left (our-choice d b past s left)
 unfolding our-choice ticket-of
 ours-kept j d b past s h left k l = go (baked s d A) refl
   where

@@ -1,16 +1,15 @@
 -- A rival does not idle with a job in date: a schedule that is the same before and bakes a job in that slot would bake more.
-use mathlib.Core.Path.{_≡_, refl, sym, ap, _∙_, subst, subst₂}
-use mathlib.Core.Bool.{Bool, true, false, not, _||_}
-use mathlib.Core.Logic.{_⊎_, inl, inr, ⊎-elim}
+use mathlib.Core.Path.{_≡_, refl, ap}
+use mathlib.Core.Bool.{true}
 use mathlib.Core.Option.{Option, none, some}
-use mathlib.Core.List.{List, [], _∷_, _++_, List·Memᴰ}
-use Prim.Native.Nat.{ℕ, zero, suc, _+_, _≤_, _<_}
+use mathlib.Core.List.{List, []}
+use Prim.Native.Nat.{ℕ, suc, _+_, _≤_}
 use native.Mathlib.Omega.{arith}
 use Rattle.lists.specs.Select.{one-if, has}
 use Rattle.lists.proofs.Tests.{never}
 use Rattle.rule.specs.Job.{Job, in-date}
-use Rattle.books.specs.Book.{Beginning, Event, end-slot, closings, raised}
-use Rattle.books.specs.Rule.{Rule, valid, without, made-by}
+use Rattle.books.specs.Book.{Beginning, Change, closings, raised}
+use Rattle.books.specs.Rule.{Rule, made-by}
 use Rattle.books.specs.Rival.{Setting, lifted, Tried, Rival}
 use Rattle.books.specs.Schedule.{total}
 use Rattle.books.proofs.Walks.Left.{Left}
@@ -23,7 +22,7 @@ use Rattle.books.proofs.Adversary.Stage.{staged, staged-tried, staged-c
 use Rattle.books.proofs.Adversary.Cut.{cut-left}
 use Rattle.books.proofs.Adversary.Turning.{turned, ours-at, turned-after, turned-count}
 
-module _ (S : Setting) (q : Rule) (R : Rival S q) (b : Beginning) (pre post : List Event) (T : Tried S (staged b pre post)) where
+module _ (S : Setting) (q : Rule) (R : Rival S q) (b : Beginning) (pre post : List Change) (T : Tried S (staged b pre post)) where
   abbrev d : ℕ
   d = S .depth
 
@@ -43,7 +42,7 @@ module _ (S : Setting) (q : Rule) (R : Rival S q) (b : Beginning) (pre post : Li
   left = cut-left S q b pre post T
 
   -- whatever comes, the rule that turns to ours bakes no more than q
-  pub no-more : (E : List Event) → lifted S h E ≡ true
+  pub no-more : (E : List Change) → lifted S h E ≡ true
       → one-if (passes (λ r. true) (found s L (ours-at q d b pre))) + tally (λ r. true) (turned-after q d b pre E) (closings E)
       ≤ one-if (passes (λ r. true) (found s L x)) + tally (λ r. true) (picks-after q d b pre E) (closings E)
   unfolding Rival total

@@ -1,9 +1,9 @@
 -- Always the least last slot: a rival, and so of level 0; at depth 1 not of level 1, by 01's board 4.
-use mathlib.Core.Path.{_≡_, refl, sym, ap, _∙_, subst}
-use mathlib.Core.Bool.{Bool, true, false, false≢true}
+use mathlib.Core.Path.{_≡_, refl, sym, subst}
+use mathlib.Core.Bool.{false≢true}
 use mathlib.Core.Option.{Option, none, some}
 use mathlib.Core.List.{List, [], _∷_, List·Memᴰ}
-use Prim.Native.Nat.{ℕ, zero, suc, _≤_}
+use Prim.Native.Nat.{ℕ, suc}
 use native.Mathlib.Omega.{arith}
 use Rattle.lists.specs.Select.{select, has, how-many, one-if, every}
 use Rattle.lists.specs.Least.{least, least-from}
@@ -13,10 +13,10 @@ use Rattle.rule.specs.Grade.{bits, starts, graded, starting}
 use Rattle.rule.specs.Tight.{laxities, excess, smallest, tight-laxity, tight}
 use Rattle.rule.specs.Descent.{next-bit, descend, no-regret-after}
 use Rattle.rule.specs.Bake.{sooner, soonest-of, soonest, ticket-of}
-use Rattle.rule.proofs.Earliest.{SoonestOf, soonest-is, soonest-none}
-use Rattle.rule.proofs.Tight.Counts.{AllInDate, in-date-all, part, part-at, fall-member}
+use Rattle.rule.proofs.Earliest.{soonest-is, soonest-none}
+use Rattle.rule.proofs.Tight.Counts.{AllInDate, in-date-all, part-at, fall-member}
 use Rattle.rule.proofs.Tight.Slot.{tight-last, tight-last-is, mem-tight}
-use Rattle.books.specs.Book.{Beginning, Event, enter, end-slot, Book}
+use Rattle.books.specs.Book.{Beginning, Change, enter, end-slot, Book}
 use Rattle.books.specs.Rule.{valid, without}
 use Rattle.books.specs.Rival.{Setting, fit, any-laxity, lifted, begun, Tried, Level}
 use Rattle.books.specs.NoRegretRule.{by-choice, replay, keeps-at, EachClosing, Keeps}
@@ -37,7 +37,7 @@ soonest-tight s A p a e =
     let r = fall-member A l (suc l) (omega (arith, t .present, part-at A l, part-at A (suc l))) in
     mem-tight s A a (q .member) (omega (arith, q .sooner (r .0) (r .1) .last, r .3))
 
-least-kept : (d : ℕ) (b : Beginning) (past : List Event) (s h : ℕ) (left : List Job) → Left h left → Kept 0 d s left (least-last-choice d b past s left)
+least-kept : (d : ℕ) (b : Beginning) (past : List Change) (s h : ℕ) (left : List Job) → Left h left → Kept 0 d s left (least-last-choice d b past s left)
 unfolding least-last-choice ticket-of
 least-kept d b past s h left l = go (soonest A) refl
   where
@@ -57,7 +57,7 @@ least-last-level0 S = characterised S .keeps-level 0 (omega arith) _ (choice-kee
 
 -- 01's board 4 as a book: 1/1, 2/1, 2/0, and a closing
 board-4 : Book
-board-4 = record { beginning = record { slot = 1; highest = 0; jobs = [] }; events = enter 1 1 1 ∷ enter 2 2 1 ∷ enter 3 2 0 ∷ end-slot ∷ [] }
+board-4 = record { beginning = record { slot = 1; highest = 0; jobs = [] }; changes = enter 1 1 1 ∷ enter 2 2 1 ∷ enter 3 2 0 ∷ end-slot ∷ [] }
 
 tried-4 : Tried (paper-setting 1) board-4
 unfolding board-4 paper-setting lifted any-laxity begun fit rise every

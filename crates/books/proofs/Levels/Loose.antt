@@ -1,18 +1,16 @@
 -- A rival bakes no job that is not tight: arrivals of laxity 1 up to the tight slot make it bake fewer than a rule that bakes a tight job instead.
 use mathlib.Core.Path.{_≡_, refl, sym, ap, _∙_, subst, subst₂}
-use mathlib.Core.Bool.{Bool, true, false, not, _||_}
-use mathlib.Core.Logic.{_⊎_, inl, inr, ⊎-elim}
-use mathlib.Core.Option.{Option, none, some}
+use mathlib.Core.Bool.{true}
+use mathlib.Core.Logic.{⊎-elim}
+use mathlib.Core.Option.{Option, some}
 use mathlib.Core.List.{List, [], _∷_, _++_, List·Memᴰ}
-use Prim.Native.Nat.{ℕ, zero, suc, _+_, _≤_, _<_}
+use Prim.Native.Nat.{ℕ, suc, _≤_, _<_}
 use native.Mathlib.Omega.{arith}
-use lib.Dec.{eqb}
-use lib.ListN.{length}
 use Rattle.lists.specs.Select.{one-if, select, has}
 use Rattle.lists.proofs.Tests.{cmp, never}
-use Rattle.heights.proofs.Heights.Part.{Part, _⊕_, Same, same-sym, Out}
+use Rattle.heights.proofs.Heights.Part.{_⊕_, Same, same-sym, Out}
 use Rattle.heights.proofs.Heights.TightSlot.{tight-same}
-use Rattle.heights.proofs.Schedule.Run.{Schedule, TightRun, sum, schedule-same, tight-run-same}
+use Rattle.heights.proofs.Schedule.Run.{Schedule, TightRun, schedule-same, tight-run-same}
 use Rattle.heights.proofs.Items.Item.{Item, part, parts, part-append, part-out}
 use Rattle.heights.proofs.Adversary.Level0.{Beaten0, beaten0}
 use Rattle.rule.specs.Job.{Job, in-date}
@@ -26,8 +24,8 @@ use Rattle.rule.proofs.Tight.Slot.{tight-last, tight-mem, mem-tight, in-date-ti
 use Rattle.rule.proofs.NoRegret.ByBit.{starting-none}
 use Rattle.rule.proofs.NoRegret.Chosen.{mem-dated}
 use Rattle.rule.proofs.NoRegret.Items.{items, items-count, less-items}
-use Rattle.books.specs.Book.{Beginning, Event, end-slot, closings, raised}
-use Rattle.books.specs.Rule.{Rule, valid, without, made-by}
+use Rattle.books.specs.Book.{Beginning, Change, end-slot, raised}
+use Rattle.books.specs.Rule.{Rule, valid, without}
 use Rattle.books.specs.Rival.{Setting, lifted, Tried, Rival}
 use Rattle.books.proofs.Walks.Groups.{first, later}
 use Rattle.books.proofs.Walks.Without.{without-less}
@@ -50,7 +48,7 @@ pub after-none : (now d : ℕ) (A : List Job) → no-regret-after now d 0 A ≡ 
 unfolding no-regret-after descend
 after-none now d A = ap (tight now) (starting-none d A)
 
-module _ (S : Setting) (q : Rule) (R : Rival S q) (b : Beginning) (pre post : List Event) (T : Tried S (staged b pre post)) where
+module _ (S : Setting) (q : Rule) (R : Rival S q) (b : Beginning) (pre post : List Change) (T : Tried S (staged b pre post)) where
   abbrev d : ℕ
   d = S .depth
 
@@ -93,10 +91,10 @@ module _ (S : Setting) (q : Rule) (R : Rival S q) (b : Beginning) (pre post : Li
         ap (tally (λ r. true) es) (picks-length (turned q d b pre) d b (past ++ (end-slot ∷ [])) (suc s) (ours-rest q d b pre) E),
       )
     where
-      past : List Event
+      past : List Change
       past = past-at q d b pre
 
-      E : List Event
+      E : List Change
       E = future h (suc s) (B .first) (B .later)
 
       lift : lifted S h E ≡ true

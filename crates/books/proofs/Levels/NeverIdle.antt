@@ -1,6 +1,6 @@
 -- A rival never idles with a job in date.
-use mathlib.Core.Path.{_≡_, refl, sym, ap, _∙_}
-use mathlib.Core.Bool.{Bool, true, false, not, _||_}
+use mathlib.Core.Path.{_≡_, ap}
+use mathlib.Core.Bool.{true, not}
 use mathlib.Core.List.{List, []}
 use Prim.Native.Nat.{ℕ}
 use native.Mathlib.Omega.{arith}
@@ -9,9 +9,8 @@ use borrow.Author.Tests.{ne-eqb}
 use Rattle.lists.specs.Select.{has}
 use Rattle.lists.proofs.Tests.{or-left, or-right}
 use Rattle.rule.specs.Job.{Job, in-date}
-use Rattle.books.specs.Book.{Book}
 use Rattle.books.specs.Rule.{Rule, valid}
-use Rattle.books.specs.Rival.{Setting, Tried, Rival}
+use Rattle.books.specs.Rival.{Setting, Rival}
 use Rattle.books.specs.NoRegretRule.{keeps-at, busy-at, Busy, Keeps}
 use Rattle.books.proofs.Walks.Tickets.{rising-above}
 use Rattle.books.proofs.Walks.Left.{Left, begun-left}
@@ -32,5 +31,5 @@ unfolding Busy
 never-idle S q R B T =
     let d = S .depth in
     let b = B .beginning in
-    each-weaker S q d b (keeps-at 0 d) busy-at (λ s h left x l e. busy d s h left x l (kept 0 d s h left x l e)) [] (b .slot) (b .jobs) (B .events) (b .highest)
+    each-weaker S q d b (keeps-at 0 d) busy-at (λ s h left x l e. busy d s h left x l (kept 0 d s h left x l e)) [] (b .slot) (b .jobs) (B .changes) (b .highest)
     (begun-left S b (T .present)) (T .later) (unfold Keeps in rival-keeps S q R B T)

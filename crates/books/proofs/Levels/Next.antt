@@ -1,9 +1,9 @@
 -- A rule that keeps to order j, and that no follower of its own beats on a start of j bits, keeps to order j + 1.
-use mathlib.Core.Path.{_≡_, refl, sym, subst}
-use mathlib.Core.Bool.{Bool, true, false, not, _||_}
+use mathlib.Core.Path.{_≡_, sym, subst}
+use mathlib.Core.Bool.{true, false, not}
 use mathlib.Core.Logic.{_⊎_, inl, inr}
-use mathlib.Core.List.{List, [], _∷_, _++_}
-use Prim.Native.Nat.{ℕ, zero, suc, _≤_, _<_}
+use mathlib.Core.List.{List, []}
+use Prim.Native.Nat.{ℕ, suc, _<_}
 use lib.Dec.{eqb}
 use borrow.Author.Tests.{eq-eqb, not-false}
 use Rattle.lists.specs.Select.{select, has}
@@ -11,7 +11,7 @@ use Rattle.lists.proofs.Tests.{test, never, or-false}
 use Rattle.lists.proofs.Members.{mem-has}
 use Rattle.rule.specs.Job.{Job, in-date}
 use Rattle.rule.specs.Descent.{no-regret-after}
-use Rattle.books.specs.Book.{Beginning, Event, end-slot, Book, raised}
+use Rattle.books.specs.Book.{Beginning, Change, raised}
 use Rattle.books.specs.Rule.{Rule, valid}
 use Rattle.books.specs.Rival.{Setting, Tried}
 use Rattle.books.specs.NoRegretRule.{keeps-at, Keeps}
@@ -24,7 +24,7 @@ use Rattle.books.proofs.Adversary.Cut.{cut-left}
 use Rattle.books.proofs.Levels.Outside.{UnbeatenByFollowers, outside}
 
 module _ (S : Setting) (j : ℕ) (jd : j < S .depth) (q : Rule) (a : Keeps S j q) (unbeaten : UnbeatenByFollowers S j q) (b : Beginning)
-    (pre post : List Event) (T : Tried S (staged b pre post)) where
+    (pre post : List Change) (T : Tried S (staged b pre post)) where
   abbrev d : ℕ
   d = S .depth
 
@@ -34,7 +34,7 @@ module _ (S : Setting) (j : ℕ) (jd : j < S .depth) (q : Rule) (a : Keeps S j q
   abbrev L : List Job
   L = left-at q d b pre
 
-  abbrev past : List Event
+  abbrev past : List Change
   past = past-at q d b pre
 
   abbrev x : ℕ
@@ -75,7 +75,7 @@ pub next-keeps : (S : Setting) (j : ℕ) → j < S .depth → (q : Rule) → Kee
     → UnbeatenByFollowers S j q → Keeps S (suc j) q
 unfolding Keeps
 next-keeps S j jd q a u B T =
-    points-keep q (S .depth) (B .beginning) (suc j) [] (B .beginning .slot) (B .beginning .jobs) (B .events)
+    points-keep q (S .depth) (B .beginning) (suc j) [] (B .beginning .slot) (B .beginning .jobs) (B .changes)
     (λ pre post e.
     keeps-here S j jd q a u (B .beginning) pre post
-    (subst (λ (es : List Event). Tried S (record { beginning = B .beginning; events = es })) e T))
+    (subst (λ (es : List Change). Tried S (record { beginning = B .beginning; changes = es })) e T))

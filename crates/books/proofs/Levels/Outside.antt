@@ -1,10 +1,10 @@
 -- A rule of level j + 1 that bakes a job of order j that is not of order j + 1 is beaten on some start of j bits, by the rule that follows it up to there
 -- and is ours from then on.
-use mathlib.Core.Path.{_≡_, refl, sym, ap, _∙_, subst}
+use mathlib.Core.Path.{_≡_, sym, ap, _∙_, subst}
 use mathlib.Core.Bool.{Bool, true, false}
 use mathlib.Core.Option.{Option, some}
 use mathlib.Core.List.{List, [], _∷_, _++_, List·Memᴰ}
-use Prim.Native.Nat.{ℕ, zero, suc, _+_, _≤_, _<_}
+use Prim.Native.Nat.{ℕ, suc, _+_, _≤_, _<_}
 use native.Mathlib.Omega.{arith}
 use lib.ListN.{length}
 use Rattle.lists.specs.Select.{one-if, select, has}
@@ -22,7 +22,7 @@ use Rattle.rule.specs.Descent.{no-regret-after}
 use Rattle.rule.proofs.NoRegret.Items.{items}
 use Rattle.rule.proofs.NoRegret.Order.{leaves-no-regret}
 use Rattle.rule.proofs.NoRegret.Start.{starts-one-if}
-use Rattle.books.specs.Book.{Beginning, Event, end-slot, Book, closings, raised}
+use Rattle.books.specs.Book.{Beginning, Change, end-slot, Book, closings, raised}
 use Rattle.books.specs.Schedule.{baked-in}
 use Rattle.books.specs.Rule.{Rule, valid, without, made-by}
 use Rattle.books.specs.Rival.{Setting, lifted, Tried, NoLarger, count-of}
@@ -49,7 +49,7 @@ UnbeatenByFollowers S j q =
     (B : Book) → Tried S B → (n : ℕ) → NoLarger S j B (made-by (by-choice (follow n q)) (S .depth) B) (made-by q (S .depth) B)
 
 module _ (S : Setting) (j : ℕ) (jd : j < S .depth) (q : Rule) (a : Keeps S j q) (unbeaten : UnbeatenByFollowers S j q) (b : Beginning)
-    (pre post : List Event) (T : Tried S (staged b pre post)) where
+    (pre post : List Change) (T : Tried S (staged b pre post)) where
   abbrev d : ℕ
   d = S .depth
 
@@ -59,7 +59,7 @@ module _ (S : Setting) (j : ℕ) (jd : j < S .depth) (q : Rule) (a : Keeps S j q
   abbrev L : List Job
   L = left-at q d b pre
 
-  abbrev past : List Event
+  abbrev past : List Change
   past = past-at q d b pre
 
   abbrev x : ℕ
@@ -87,7 +87,7 @@ module _ (S : Setting) (j : ℕ) (jd : j < S .depth) (q : Rule) (a : Keeps S j q
       v : List Bool
       v = B .u ++ (false ∷ [])
 
-      Ev : List Event
+      Ev : List Change
       Ev = future h (suc s) (B .first) (B .later)
 
       e' : lifted S h Ev ≡ true

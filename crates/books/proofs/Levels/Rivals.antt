@@ -1,11 +1,10 @@
 -- A rival keeps to the tight sets.
-use mathlib.Core.Path.{_≡_, refl, sym, ap, _∙_, subst, subst₂}
-use mathlib.Core.Bool.{Bool, true, false, not, _||_}
-use mathlib.Core.Logic.{_⊎_, inl, inr, ⊎-elim}
+use mathlib.Core.Path.{_≡_, refl, sym, subst}
+use mathlib.Core.Bool.{true, false, not}
+use mathlib.Core.Logic.{_⊎_, inl, inr}
 use mathlib.Core.Option.{Option, none, some}
-use mathlib.Core.List.{List, [], _∷_, _++_, List·Memᴰ}
-use Prim.Native.Nat.{ℕ, zero, suc, _+_, _≤_, _<_}
-use native.Mathlib.Omega.{arith}
+use mathlib.Core.List.{List, [], List·Memᴰ}
+use Prim.Native.Nat.{ℕ}
 use lib.Dec.{eqb}
 use borrow.Author.Tests.{eq-eqb, not-false}
 use Rattle.lists.specs.Select.{select, has}
@@ -13,7 +12,7 @@ use Rattle.lists.proofs.Tests.{test, never, or-false}
 use Rattle.lists.proofs.Members.{mem-has}
 use Rattle.rule.specs.Job.{Job, in-date}
 use Rattle.rule.specs.Descent.{no-regret-after}
-use Rattle.books.specs.Book.{Beginning, Event, end-slot, Book}
+use Rattle.books.specs.Book.{Beginning, Change}
 use Rattle.books.specs.Rule.{Rule, valid}
 use Rattle.books.specs.Rival.{Setting, Tried, Rival}
 use Rattle.books.specs.NoRegretRule.{keeps-at, Keeps}
@@ -24,7 +23,7 @@ use Rattle.books.proofs.Adversary.Stage.{staged, past-at, slot-at, left
 use Rattle.books.proofs.Levels.Idling.{idle-beaten}
 use Rattle.books.proofs.Levels.Loose.{after-none, loose-beaten}
 
-module _ (S : Setting) (q : Rule) (R : Rival S q) (b : Beginning) (pre post : List Event) (T : Tried S (staged b pre post)) where
+module _ (S : Setting) (q : Rule) (R : Rival S q) (b : Beginning) (pre post : List Change) (T : Tried S (staged b pre post)) where
   abbrev d : ℕ
   d = S .depth
 
@@ -65,7 +64,7 @@ module _ (S : Setting) (q : Rule) (R : Rival S q) (b : Beginning) (pre post : Li
 pub rival-keeps : (S : Setting) (q : Rule) → Rival S q → Keeps S 0 q
 unfolding Keeps
 rival-keeps S q R B T =
-    points-keep q (S .depth) (B .beginning) 0 [] (B .beginning .slot) (B .beginning .jobs) (B .events)
+    points-keep q (S .depth) (B .beginning) 0 [] (B .beginning .slot) (B .beginning .jobs) (B .changes)
     (λ pre post e.
     keeps-here S q R (B .beginning) pre post
-    (subst (λ (es : List Event). Tried S (record { beginning = B .beginning; events = es })) e T))
+    (subst (λ (es : List Change). Tried S (record { beginning = B .beginning; changes = es })) e T))

@@ -1,29 +1,28 @@
 -- What a rule bakes on a book, as runs of the theory of heights: any rule's as a schedule of counts, and that of a rule that keeps to the no-regret
 -- sets of order j as a run of order j.
 use mathlib.Core.Path.{_≡_, refl, sym, ap, _∙_, subst}
-use mathlib.Core.Bool.{Bool, true, false, _&&_}
-use mathlib.Core.Logic.{_⊎_, inl, inr}
+use mathlib.Core.Bool.{true}
 use mathlib.Core.Option.{Option, none, some}
-use mathlib.Core.List.{List, [], _∷_, _++_, append-assoc, append-nil, List·Memᴰ}
-use Prim.Native.Nat.{ℕ, zero, suc, _+_, _≤_, _<_}
+use mathlib.Core.List.{List, [], _∷_, _++_, append-assoc, append-nil}
+use Prim.Native.Nat.{ℕ, zero, suc, _+_}
 use native.Mathlib.Omega.{arith}
 use lib.ListN.{take, length}
-use Rattle.lists.specs.Select.{one-if, has}
-use Rattle.heights.proofs.Heights.Part.{Part, _⊕_, Same, same-refl, same-sym}
+use Rattle.lists.specs.Select.{one-if}
+use Rattle.heights.proofs.Heights.Part.{Same, same-refl, same-sym}
 use Rattle.heights.proofs.Schedule.Run.{AnyStep, Schedule, stop, next, schedule-same, sum}
 use Rattle.heights.proofs.Items.Item.{Item, part, parts, part-append, part-out}
-use Rattle.rule.specs.Job.{Job, job, in-date}
+use Rattle.rule.specs.Job.{Job, job}
 use Rattle.rule.specs.Bake.{ticket-of}
 use Rattle.rule.proofs.NoRegret.Items.{item, items, less-items}
-use Rattle.books.specs.Book.{Beginning, Event, enter, end-slot}
+use Rattle.books.specs.Book.{Beginning, Change, enter, end-slot}
 use Rattle.books.specs.Rule.{Rule, valid, without}
 use Rattle.books.specs.Rival.{Setting, lifted}
 use Rattle.books.proofs.Walks.Groups.{first, later}
 use Rattle.books.proofs.Walks.Tickets.{rising-above}
 use Rattle.books.proofs.Walks.Without.{without-none, without-less}
 use Rattle.books.proofs.Walks.Left.{Left, enters, ends, left-enter, left-without}
-use Rattle.books.proofs.Walks.Picks.{found, Search, search, picks}
-use Rattle.books.proofs.Schedules.Counts.{passes, tally, tally-none}
+use Rattle.books.proofs.Walks.Picks.{found, search, picks}
+use Rattle.books.proofs.Schedules.Counts.{passes, tally}
 
 pub items-append : (d : ℕ) (K L : List Job) → items d (K ++ L) ≡ items d K ++ items d L
 unfolding items
@@ -84,7 +83,7 @@ any-step d s h left x l = go (found s left x) refl
         (AnyStep.take (p .last) (part-out (less-items d (without-less (l .rising) (f .mem))) (f .date)))))
 
 module _ (S : Setting) (q : Rule) (d : ℕ) (b : Beginning) where
-  pub any-run : (past : List Event) (s : ℕ) (left : List Job) (es : List Event) (h : ℕ) → Left h left → lifted S h es ≡ true
+  pub any-run : (past : List Change) (s : ℕ) (left : List Job) (es : List Change) (h : ℕ) → Left h left → lifted S h es ≡ true
       → Schedule s (part (items d (left ++ first s es))) (parts (groups d (later s es))) (ones (picks q d b past s left es))
   unfolding first later picks groups ones
   any-run past s left [] h l e = stop

@@ -1,17 +1,17 @@
 -- The runs of a rule that keeps to the no-regret sets of order j: a tight run of counts, and a run of order j of trees.
 use mathlib.Core.Path.{_≡_, refl, sym, ap, _∙_, subst}
-use mathlib.Core.Bool.{Bool, true, false, _&&_}
-use mathlib.Core.Option.{Option, none, some}
+use mathlib.Core.Bool.{Bool, true, false}
+use mathlib.Core.Option.{Option, some}
 use mathlib.Core.List.{List, [], _∷_, _++_, append-assoc, append-nil, List·Memᴰ}
-use Prim.Native.Nat.{ℕ, zero, suc, _+_, _≤_, _<_}
+use Prim.Native.Nat.{ℕ, zero, suc, _+_, _≤_}
 use native.Mathlib.Omega.{arith}
 use lib.ListN.{take}
 use Rattle.lists.specs.Select.{one-if, has, select}
 use Rattle.lists.proofs.Counting.{count-has}
-use Rattle.heights.proofs.Heights.Part.{Part, _⊕_, Same, same-refl, same-sym, out-same}
+use Rattle.heights.proofs.Heights.Part.{_⊕_, Same, out-same}
 use Rattle.heights.proofs.Heights.TightSlot.{tight-same}
 use Rattle.heights.proofs.Schedule.Run.{TightStep, TightRun, stop, next, tight-run-same}
-use Rattle.heights.proofs.Trees.Tree.{Tree, total, join-tree, SameTree, same-tree-refl, same-tree-sym}
+use Rattle.heights.proofs.Trees.Tree.{total, join-tree, SameTree, same-tree-refl, same-tree-sym}
 use Rattle.heights.proofs.Trees.NoRegret.{NoRegret, no-regret-tight}
 use Rattle.heights.proofs.Trees.Run as R
 use Rattle.heights.proofs.Trees.Run.{Count, Run, Step, run-same}
@@ -20,10 +20,10 @@ use Rattle.heights.proofs.Items.Tree.{tree, total-tree, tree-append, slots}
 use Rattle.rule.specs.Job.{Job, job, in-date}
 use Rattle.rule.specs.Grade.{bits, graded}
 use Rattle.rule.specs.Descent.{no-regret-after}
-use Rattle.rule.proofs.NoRegret.Items.{items, items-count, total-items}
+use Rattle.rule.proofs.NoRegret.Items.{items, items-count}
 use Rattle.rule.proofs.NoRegret.Order.{no-regret-leaves}
 use Rattle.rule.proofs.NoRegret.Start.{starts-one-if}
-use Rattle.books.specs.Book.{Beginning, Event, enter, end-slot}
+use Rattle.books.specs.Book.{Beginning, Change, enter, end-slot}
 use Rattle.books.specs.Rule.{Rule, valid, without}
 use Rattle.books.specs.Rival.{Setting, lifted}
 use Rattle.books.specs.NoRegretRule.{EachClosing, KeepsAlong}
@@ -31,7 +31,7 @@ use Rattle.books.proofs.Walks.Groups.{first, later}
 use Rattle.books.proofs.Walks.Without.{without-less}
 use Rattle.books.proofs.Walks.Left.{Left, enters, ends, left-enter, left-without}
 use Rattle.books.proofs.Walks.Picks.{found, picks}
-use Rattle.books.proofs.Schedules.Counts.{passes, tally, tally-none}
+use Rattle.books.proofs.Schedules.Counts.{passes, tally}
 use Rattle.books.proofs.Runs.Kept.{Kept, idle, bake, kept, after-left}
 use Rattle.books.proofs.Runs.AnyRun.{items-append, groups, ones, nothing-baked, found-valid}
 
@@ -69,7 +69,7 @@ tight-step j d s h left x k l (bake p m e) =
     (unfold passes one-if in (TightStep.take (t .slot) (t .last) (tight-same same (t .tight)) (out-same same (t .out)) (t .within)))
 
 module _ (S : Setting) (j : ℕ) (q : Rule) (d : ℕ) (b : Beginning) (k : j ≤ d) where
-  pub tight-run : (past : List Event) (s : ℕ) (left : List Job) (es : List Event) (h : ℕ) → Left h left → lifted S h es ≡ true
+  pub tight-run : (past : List Change) (s : ℕ) (left : List Job) (es : List Change) (h : ℕ) → Left h left → lifted S h es ≡ true
       → KeepsAlong j q d b past s left es
       → TightRun s (part (items d (left ++ first s es))) (parts (groups d (later s es))) (ones (picks q d b past s left es))
   unfolding first later picks groups ones EachClosing
@@ -114,7 +114,7 @@ tree-step j d s h left x k l (bake p m e) = (
 
 module _ (S : Setting) (j : ℕ) (q : Rule) (d : ℕ) (b : Beginning) (k : j ≤ d) where
   -- the first i closings
-  pub tree-run : (past : List Event) (s : ℕ) (left : List Job) (es : List Event) (h : ℕ) → Left h left → lifted S h es ≡ true
+  pub tree-run : (past : List Change) (s : ℕ) (left : List Job) (es : List Change) (h : ℕ) → Left h left → lifted S h es ≡ true
       → KeepsAlong j q d b past s left es → (i : ℕ)
       → Run j d s (tree d (items d (left ++ first s es))) (slots d (groups d (take i (later s es)))) (λ v. tally (graded d v) (picks q d b past s left es) i)
   unfolding first later picks groups slots EachClosing tally adds

@@ -1,20 +1,16 @@
 -- A rule that keeps to the tight sets is a rival. One that keeps to the no-regret sets of order j + 1 has on every book, for every start of j bits,
 -- at least the count of any that keeps to those of order j.
-use mathlib.Core.Path.{_≡_, refl, sym, ap, _∙_, subst}
-use mathlib.Core.Bool.{Bool, true, false}
-use mathlib.Core.List.{List, [], _∷_, _++_}
-use Prim.Native.Nat.{ℕ, zero, suc, _≤_, _<_}
+use mathlib.Core.Bool.{true, false}
+use mathlib.Core.List.{[], _∷_, _++_}
+use Prim.Native.Nat.{ℕ, suc, _<_}
 use native.Mathlib.Omega.{arith}
-use lib.ListN.{length, take}
 use Rattle.heights.proofs.Schedule.NoMore.{no-schedule-more}
-use Rattle.heights.proofs.Schedule.Run.{sum}
 use Rattle.heights.proofs.Trees.Better.{better}
 use Rattle.heights.proofs.Items.Tree.{tree}
-use Rattle.rule.specs.Job.{Job}
 use Rattle.rule.specs.Grade.{graded}
 use Rattle.rule.proofs.NoRegret.Items.{items}
-use Rattle.books.specs.Book.{Book, closed}
-use Rattle.books.specs.Schedule.{Schedule, IsSchedule, baked-in, total}
+use Rattle.books.specs.Book.{Book}
+use Rattle.books.specs.Schedule.{total}
 use Rattle.books.specs.Rule.{Rule, made-by}
 use Rattle.books.specs.Rival.{Setting, Tried, Rival, count-of, NoLarger}
 use Rattle.books.specs.NoRegretRule.{keeps-at, Keeps}
@@ -24,7 +20,7 @@ use Rattle.books.proofs.Walks.Closings.{each-weaker}
 use Rattle.books.proofs.Schedules.Counts.{tally, picks-on, baked-tally}
 use Rattle.books.proofs.Schedules.Realised.{following, realised}
 use Rattle.books.proofs.Runs.Kept.{kept, kept-at, kept-wider}
-use Rattle.books.proofs.Runs.AnyRun.{ones, sum-ones, any-run}
+use Rattle.books.proofs.Runs.AnyRun.{sum-ones, any-run}
 use Rattle.books.proofs.Runs.KeptRuns.{tight-run, tree-run}
 
 -- no schedule bakes more
@@ -37,13 +33,13 @@ keeps-rival S q a B T k h p P =
     omega (
       arith,
       no-schedule-more
-          (tight-run S 0 q d b (omega arith) [] (b .slot) (b .jobs) (B .events) (b .highest) l (T .later) (a B T))
-          (any-run S (following p) d b [] (b .slot) (b .jobs) (B .events) (b .highest) l (T .later))
+          (tight-run S 0 q d b (omega arith) [] (b .slot) (b .jobs) (B .changes) (b .highest) l (T .later) (a B T))
+          (any-run S (following p) d b [] (b .slot) (b .jobs) (B .changes) (b .highest) l (T .later))
           k,
       sum-ones (picks-on q d B) k,
       sum-ones (picks-on (following p) d B) k,
       baked-tally S B T q d (λ r. true) k,
-      realised S B T p P d (λ r. true) k h,
+      realised S B T p P d (λ r. true) k (omega arith),
     )
 
 -- no count is larger
@@ -57,9 +53,9 @@ keeps-better S j i q r a c B T u e k h =
     let v = u ++ (false ∷ []) in
     omega (
       arith,
-      better j d (tree d (items d (b .jobs ++ first (b .slot) (B .events)))) (λ w. tally (graded d w) (picks-on q d B) k) (λ w. tally (graded d w) (picks-on r d B) k) i
-          (tree-run S (suc j) q d b i [] (b .slot) (b .jobs) (B .events) (b .highest) l (T .later) (a B T) k)
-          (tree-run S j r d b (omega arith) [] (b .slot) (b .jobs) (B .events) (b .highest) l (T .later) (c B T) k)
+      better j d (tree d (items d (b .jobs ++ first (b .slot) (B .changes)))) (λ w. tally (graded d w) (picks-on q d B) k) (λ w. tally (graded d w) (picks-on r d B) k) i
+          (tree-run S (suc j) q d b i [] (b .slot) (b .jobs) (B .changes) (b .highest) l (T .later) (a B T) k)
+          (tree-run S j r d b (omega arith) [] (b .slot) (b .jobs) (B .changes) (b .highest) l (T .later) (c B T) k)
           u e,
       baked-tally S B T q d (graded d v) k,
       baked-tally S B T r d (graded d v) k,
@@ -72,4 +68,4 @@ keeps-wider S j q i a B T =
     let d = S .depth in
     let b = B .beginning in
     each-weaker S q d b (keeps-at (suc j) d) (keeps-at j d) (λ s h left x l e. kept-at j d s left x (kept-wider j d s left x i (kept (suc j) d s h left x l e))) []
-    (b .slot) (b .jobs) (B .events) (b .highest) (begun-left S b (T .present)) (T .later) (a B T)
+    (b .slot) (b .jobs) (B .changes) (b .highest) (begun-left S b (T .present)) (T .later) (a B T)

@@ -1,21 +1,20 @@
 -- What a rule's schedule bakes in the first k slots, counted off the jobs that it bakes.
-use mathlib.Core.Path.{_≡_, refl, sym, ap, ap₂, _∙_, subst}
-use mathlib.Core.Bool.{Bool, true, false, not, cond, _&&_}
-use mathlib.Core.Logic.{_⊎_, inl, inr}
+use mathlib.Core.Path.{_≡_, refl, sym, ap, _∙_}
+use mathlib.Core.Bool.{Bool, false, _&&_}
 use mathlib.Core.Option.{Option, none, some}
-use mathlib.Core.List.{List, [], _∷_, _++_, map, List·Memᴰ, List·Memᴰ·head, List·Memᴰ·tail}
-use Prim.Native.Nat.{ℕ, zero, suc, _+_, _≤_, _<_}
+use mathlib.Core.List.{List, [], _∷_, map, List·Memᴰ, List·Memᴰ·head, List·Memᴰ·tail}
+use Prim.Native.Nat.{ℕ, zero, suc, _+_}
 use native.Mathlib.Omega.{arith}
 use lib.Dec.{eqb}
-use lib.ListN.{length, getD}
+use lib.ListN.{getD}
 use borrow.Author.Tests.{eqb-true, eq-eqb, ne-eqb}
 use Rattle.lists.specs.Select.{one-if, has}
-use Rattle.lists.proofs.Tests.{test, never, and-left, and-right, and-intro, cond-true, cond-false, same-test}
+use Rattle.lists.proofs.Tests.{test, and-left, and-right, and-intro, cond-true, cond-false, same-test}
 use Rattle.lists.proofs.Members.{has-mem, mem-has, none-has}
 use Rattle.rule.specs.Job.{Job}
 use Rattle.rule.specs.Bake.{ticket-of}
-use Rattle.books.specs.Book.{Book, closed, closings, jobs, entered}
-use Rattle.books.specs.Schedule.{Schedule, gives, baked-in, from-slot}
+use Rattle.books.specs.Book.{Book, jobs}
+use Rattle.books.specs.Schedule.{gives, baked-in, from-slot}
 use Rattle.books.specs.Rule.{Rule, choices, made-by}
 use Rattle.books.specs.Rival.{Setting, Tried}
 use Rattle.books.proofs.Walks.Tickets.{Rising, rising-above, one-job}
@@ -87,7 +86,7 @@ gives-job q J (some r) h f =
 
 -- the picks of a rule on a book
 abbrev pub picks-on : Rule → ℕ → Book → List (Option Job)
-picks-on q d B = picks q d (B .beginning) [] (B .beginning .slot) (B .beginning .jobs) (B .events)
+picks-on q d B = picks q d (B .beginning) [] (B .beginning .slot) (B .beginning .jobs) (B .changes)
 
 pub baked-tally : (S : Setting) (B : Book) → Tried S B → (q : Rule) (d : ℕ) (test : Job → Bool) (k : ℕ)
     → baked-in test B (made-by q d B) k ≡ tally test (picks-on q d B) k
@@ -105,8 +104,8 @@ baked-tally S B T q d test (suc k) =
     ticket : made-by q d B (B .beginning .slot + k) ≡ ticket-of o
     ticket =
         unfold made-by in
-        (from-slot-at (B .beginning .slot) (choices q d (B .beginning) [] (B .beginning .slot) (B .beginning .jobs) (B .events)) k
-        ∙ ap (λ (ts : List ℕ). getD ts k 0) (picks-choices q d (B .beginning) [] (B .beginning .slot) (B .beginning .jobs) (B .events))
+        (from-slot-at (B .beginning .slot) (choices q d (B .beginning) [] (B .beginning .slot) (B .beginning .jobs) (B .changes)) k
+        ∙ ap (λ (ts : List ℕ). getD ts k 0) (picks-choices q d (B .beginning) [] (B .beginning .slot) (B .beginning .jobs) (B .changes))
         ∙ getD-map-ticket os k)
 
     slot : gives test B (made-by q d B) (B .beginning .slot + k) ≡ passes test o
@@ -114,4 +113,4 @@ baked-tally S B T q d test (suc k) =
         unfold gives in
         (ap (λ t. has (λ r. eqb (r .ticket) t && test r) (jobs B)) ticket
         ∙ gives-job test (jobs B) o (jobs-rising S B T)
-        (λ r e. unfold jobs in picks-from q d (B .beginning) [] (B .beginning .slot) (B .beginning .jobs) (B .events) r (getD-mem os k r e)))
+        (λ r e. unfold jobs in picks-from q d (B .beginning) [] (B .beginning .slot) (B .beginning .jobs) (B .changes) r (getD-mem os k r e)))

@@ -1,22 +1,22 @@
 -- What any rule makes of a book is a schedule of it.
-use mathlib.Core.Path.{_≡_, refl, sym, ap, _∙_, subst}
+use mathlib.Core.Path.{_≡_, refl, sym, ap, _∙_}
 use mathlib.Core.Bool.{Bool, true, false, cond, _&&_}
 use mathlib.Core.Logic.{_⊎_, inl, inr}
 use mathlib.Core.Option.{Option, none, some}
-use mathlib.Core.List.{List, [], _∷_, _++_, map, List·Memᴰ, List·Memᴰ·head, List·Memᴰ·append-cases, List·Memᴰ·eq-of-singleton}
-use Prim.Native.Nat.{ℕ, zero, suc, _+_, _≤_, _<_}
+use mathlib.Core.List.{List, [], _∷_, _++_, List·Memᴰ, List·Memᴰ·append-cases, List·Memᴰ·eq-of-singleton}
+use Prim.Native.Nat.{ℕ, zero, suc, _+_, _≤_}
 use native.Mathlib.Omega.{arith}
 use lib.Dec.{leb, eqb}
 use lib.ListN.{getD}
 use borrow.Author.Tests.{eqb-true, leb-true}
 use Rattle.lists.specs.Select.{every}
 use Rattle.lists.specs.Rise.{rise}
-use Rattle.lists.proofs.Tests.{test, and-left, and-right, cond-true, cond-false}
+use Rattle.lists.proofs.Tests.{test, and-right, cond-true, cond-false}
 use Rattle.lists.proofs.Members.{every-mem}
 use Rattle.rule.specs.Job.{Job, job}
 use Rattle.rule.specs.Bake.{ticket-of}
-use Rattle.books.specs.Book.{Beginning, Event, enter, end-slot, Book, jobs, entered}
-use Rattle.books.specs.Schedule.{Schedule, IsSchedule, from-slot}
+use Rattle.books.specs.Book.{Beginning, Change, enter, end-slot, Book, jobs, entered}
+use Rattle.books.specs.Schedule.{IsSchedule, from-slot}
 use Rattle.books.specs.Rule.{Rule, valid, without, choices, made-by}
 use Rattle.books.specs.Rival.{Setting, fit, lifted, begun, Tried}
 use Rattle.books.proofs.Walks.Tickets.{tickets, rising-above, without-mem}
@@ -40,7 +40,7 @@ from-slot-inv s (t ∷ ts) j h = go (test (eqb j s)) (λ k. from-slot-inv (suc s
         (suc (r .0), omega (arith, r .1), c ∙ r .2)
 
 -- the slots in which a pick is in date
-pub picks-date : (q : Rule) (d : ℕ) (b : Beginning) (past : List Event) (s : ℕ) (left : List Job) (es : List Event)
+pub picks-date : (q : Rule) (d : ℕ) (b : Beginning) (past : List Change) (s : ℕ) (left : List Job) (es : List Change)
     → ((x : Job) → List·Memᴰ x left → x .admitted ≤ s) → (i : ℕ) (r : Job) → getD (picks q d b past s left es) i none ≡ some r
     → (r .admitted ≤ s + i) × (s + i ≤ r .last)
 unfolding picks job
@@ -61,7 +61,7 @@ picks-date q d b past s left (end-slot ∷ es) f (suc i) r e =
     (omega (arith, k .0), omega (arith, k .1))
 
 -- no ticket is picked twice
-pub picks-once : (S : Setting) (q : Rule) (d : ℕ) (b : Beginning) (past : List Event) (s : ℕ) (left : List Job) (es : List Event) (h : ℕ)
+pub picks-once : (S : Setting) (q : Rule) (d : ℕ) (b : Beginning) (past : List Change) (s : ℕ) (left : List Job) (es : List Change) (h : ℕ)
     → Left h left → lifted S h es ≡ true → (i k : ℕ) (r x : Job) → getD (picks q d b past s left es) i none ≡ some r
     → getD (picks q d b past s left es) k none ≡ some x → r .ticket ≡ x .ticket → i ≡ k
 unfolding picks ticket-of
@@ -127,7 +127,7 @@ module _ (S : Setting) (B : Book) (T : Tried S B) (q : Rule) (d : ℕ) where
   given s h = go (getD os (k .0) none) refl
     where
       ts : List ℕ
-      ts = choices q d (B .beginning) [] (B .beginning .slot) (B .beginning .jobs) (B .events)
+      ts = choices q d (B .beginning) [] (B .beginning .slot) (B .beginning .jobs) (B .changes)
 
       k : (i : ℕ) × (s ≡ B .beginning .slot + i) × (from-slot (B .beginning .slot) ts s ≡ getD ts i 0)
       k = from-slot-inv (B .beginning .slot) ts s h
@@ -135,7 +135,7 @@ module _ (S : Setting) (B : Book) (T : Tried S B) (q : Rule) (d : ℕ) where
       ticket : from-slot (B .beginning .slot) ts s ≡ ticket-of (getD os (k .0) none)
       ticket =
           k .2
-          ∙ ap (λ (l : List ℕ). getD l (k .0) 0) (picks-choices q d (B .beginning) [] (B .beginning .slot) (B .beginning .jobs) (B .events))
+          ∙ ap (λ (l : List ℕ). getD l (k .0) 0) (picks-choices q d (B .beginning) [] (B .beginning .slot) (B .beginning .jobs) (B .changes))
           ∙ getD-map-ticket os (k .0)
 
       go : (o : Option Job) → getD os (k .0) none ≡ o → Given s
@@ -149,8 +149,8 @@ module _ (S : Setting) (B : Book) (T : Tried S B) (q : Rule) (d : ℕ) where
           → (r : Job) × List·Memᴰ r (jobs B) × (r .ticket ≡ made-by q d B s) × (r .admitted ≤ s) × (s ≤ r .last)
       of-book s h =
           let g = given s h in
-          let m = picks-from q d b [] (b .slot) (b .jobs) (B .events) (g .r) (getD-mem os (g .i) (g .r) (g .pick)) in
-          let t = picks-date q d b [] (b .slot) (b .jobs) (B .events) admitted-before (g .i) (g .r) (g .pick) in
+          let m = picks-from q d b [] (b .slot) (b .jobs) (B .changes) (g .r) (getD-mem os (g .i) (g .r) (g .pick)) in
+          let t = picks-date q d b [] (b .slot) (b .jobs) (B .changes) admitted-before (g .i) (g .r) (g .pick) in
           (g .r, (unfold jobs in m), sym (g .ticket), omega (arith, t .0, g .at), omega (arith, t .1, g .at))
 
       once : (s t : ℕ) → ¬ (made-by q d B s ≡ 0) → made-by q d B s ≡ made-by q d B t → s ≡ t
@@ -158,7 +158,7 @@ module _ (S : Setting) (B : Book) (T : Tried S B) (q : Rule) (d : ℕ) where
           let g = given s h in
           let k = given t (λ z. h (e ∙ z)) in
           let i =
-          picks-once S q d b [] (b .slot) (b .jobs) (B .events) (b .highest) (begun-left S b (T .present)) (T .later) (g .i) (k .i) (g .r) (k .r) (g .pick) (k .pick)
+          picks-once S q d b [] (b .slot) (b .jobs) (B .changes) (b .highest) (begun-left S b (T .present)) (T .later) (g .i) (k .i) (g .r) (k .r) (g .pick) (k .pick)
           (sym (g .ticket) ∙ e ∙ k .ticket)
           in
           omega (arith, g .at, k .at)

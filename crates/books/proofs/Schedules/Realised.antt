@@ -7,7 +7,7 @@ use mathlib.Core.List.{List, [], _∷_, _++_, append-assoc, List·Memᴰ, Memᴰ
 use Prim.Native.Nat.{ℕ, zero, suc, _+_, _≤_, _<_}
 use native.Mathlib.Omega.{arith}
 use native.Mathlib.Decide.{ℕ-discrete}
-use lib.Dec.{leb, eqb}
+use lib.Dec.{eqb}
 use lib.ListN.{getD}
 use borrow.Author.Tests.{eq-eqb, le-leb}
 use Rattle.lists.specs.Select.{one-if, has}
@@ -15,14 +15,14 @@ use Rattle.lists.proofs.Tests.{never, and-intro}
 use Rattle.lists.proofs.Members.{mem-has}
 use Rattle.rule.specs.Job.{Job, job, in-date}
 use Rattle.rule.specs.Bake.{ticket-of}
-use Rattle.books.specs.Book.{Beginning, Event, enter, end-slot, Book, closed, closings, jobs, entered}
+use Rattle.books.specs.Book.{Beginning, Change, enter, end-slot, Book, closed, closings, jobs, entered}
 use Rattle.books.specs.Schedule.{Schedule, IsSchedule, gives, baked-in}
 use Rattle.books.specs.Rule.{Rule, valid, without}
 use Rattle.books.specs.Rival.{Setting, lifted, Tried}
 use Rattle.books.proofs.Walks.Groups.{closings-append}
-use Rattle.books.proofs.Walks.Tickets.{Rising, mem-without, without-mem}
+use Rattle.books.proofs.Walks.Tickets.{mem-without, without-mem}
 use Rattle.books.proofs.Walks.Left.{Left, enters, ends, left-enter, left-without, begun-left, jobs-rising}
-use Rattle.books.proofs.Walks.Picks.{found, Found, Search, search, picks}
+use Rattle.books.proofs.Walks.Picks.{found, Search, search, picks}
 use Rattle.books.proofs.Schedules.Counts.{passes, tally, tally-none, tally-last, gives-job, picks-on}
 
 -- the rule that follows a schedule
@@ -30,7 +30,7 @@ unfoldable pub following : Schedule → Rule
 following p d b past = p (b .slot + closings past)
 
 -- a job that enters later was admitted later
-entered-after : (s : ℕ) (es : List Event) {x : Job} → List·Memᴰ x (entered s es) → s ≤ x .admitted
+entered-after : (s : ℕ) (es : List Change) {x : Job} → List·Memᴰ x (entered s es) → s ≤ x .admitted
 unfolding entered job
 entered-after s [] m = absurd (elim m [ ])
 entered-after s (enter t w g ∷ es) (List·Memᴰ.List·Memᴰ·head e) = omega (arith, ap (λ (y : Job). y .admitted) e)
@@ -42,7 +42,7 @@ module _ (S : Setting) (B : Book) (T : Tried S B) (p : Schedule) (P : IsSchedule
   b = B .beginning
 
   -- where the walk along the book stands: the jobs left and to come are the book's, and those that the schedule still has to bake are among them
-  record Walk (past : List Event) (s : ℕ) (left : List Job) (es : List Event) : Type 0 where
+  record Walk (past : List Change) (s : ℕ) (left : List Job) (es : List Change) : Type 0 where
     slot : s ≡ b .slot + closings past
     highest : ℕ
     rising : Left highest left
@@ -51,7 +51,7 @@ module _ (S : Setting) (B : Book) (T : Tried S B) (p : Schedule) (P : IsSchedule
     wanted : (x : Job) → List·Memᴰ x (jobs B) → (j : ℕ) → s ≤ j → ¬ (p j ≡ 0) → x .ticket ≡ p j → List·Memᴰ x (left ++ entered s es)
 
   -- the job found in a slot has the schedule's ticket
-  found-ticket : (past : List Event) (s : ℕ) (left : List Job) (es : List Event) → Walk past s left (end-slot ∷ es)
+  found-ticket : (past : List Change) (s : ℕ) (left : List Job) (es : List Change) → Walk past s left (end-slot ∷ es)
       → ticket-of (found s left (following p d b past)) ≡ p s
   unfolding following entered ticket-of
   found-ticket past s left es W = go (found s left (p (b .slot + closings past))) (search s left (p (b .slot + closings past)))
@@ -82,7 +82,7 @@ module _ (S : Setting) (B : Book) (T : Tried S B) (p : Schedule) (P : IsSchedule
           empty (yes h) = sym h
           empty (no h) = absurd (missed h (k .has-it refl))
 
-  walk-enter : (past : List Event) (s : ℕ) (left : List Job) (t w g : ℕ) (es : List Event) → Walk past s left (enter t w g ∷ es)
+  walk-enter : (past : List Change) (s : ℕ) (left : List Job) (t w g : ℕ) (es : List Change) → Walk past s left (enter t w g ∷ es)
       → Walk (past ++ (enter t w g ∷ [])) s (left ++ (job t s w g ∷ [])) es
   unfolding entered closings
   walk-enter past s left t w g es W =
@@ -97,7 +97,7 @@ module _ (S : Setting) (B : Book) (T : Tried S B) (p : Schedule) (P : IsSchedule
         wanted = λ x m j h z e. subst (List·Memᴰ x) (sym shift) (W .wanted x m j h z e);
       }
 
-  walk-end : (past : List Event) (s : ℕ) (left : List Job) (es : List Event) → Walk past s left (end-slot ∷ es)
+  walk-end : (past : List Change) (s : ℕ) (left : List Job) (es : List Change) → Walk past s left (end-slot ∷ es)
       → Walk (past ++ (end-slot ∷ [])) (suc s) (without (valid s left (following p d b past)) left) es
   unfolding entered closings
   walk-end past s left es W =
@@ -127,7 +127,7 @@ module _ (S : Setting) (B : Book) (T : Tried S B) (p : Schedule) (P : IsSchedule
       keep x j h z e (inr m) = Memᴰ·append-right (without t left) m
 
   -- slot by slot
-  each-slot : (test : Job → Bool) (past : List Event) (s : ℕ) (left : List Job) (es : List Event) → Walk past s left es → (i : ℕ) → i < closings es
+  each-slot : (test : Job → Bool) (past : List Change) (s : ℕ) (left : List Job) (es : List Change) → Walk past s left es → (i : ℕ) → i < closings es
       → gives test B p (s + i) ≡ passes test (getD (picks (following p) d b past s left es) i none)
   unfolding picks closings
   each-slot test past s left [] W i h = absurd (omega arith)
@@ -149,7 +149,7 @@ module _ (S : Setting) (B : Book) (T : Tried S B) (p : Schedule) (P : IsSchedule
       ap (gives test B p) (let z : s + suc i ≡ suc s + i = omega arith in z)
       ∙ each-slot test (past ++ (end-slot ∷ [])) (suc s) (without (valid s left (following p d b past)) left) es (walk-end past s left es W) i (omega arith)
 
-  start : Walk [] (b .slot) (b .jobs) (B .events)
+  start : Walk [] (b .slot) (b .jobs) (B .changes)
   start =
       record {
         slot = unfold closings in omega arith;
@@ -169,5 +169,5 @@ module _ (S : Setting) (B : Book) (T : Tried S B) (p : Schedule) (P : IsSchedule
         arith,
         realised test k (omega arith),
         tally-last test (picks-on (following p) d B) k,
-        ap one-if (each-slot test [] (b .slot) (b .jobs) (B .events) start k (unfold closed in h)),
+        ap one-if (each-slot test [] (b .slot) (b .jobs) (B .changes) start k (unfold closed in h)),
       )

@@ -4,7 +4,7 @@ use mathlib.Core.Bool.{Bool, true}
 use mathlib.Core.List.{List, [], _∷_, _++_}
 use Prim.Native.Nat.{ℕ, suc}
 use Rattle.rule.specs.Job.{Job, job}
-use Rattle.books.specs.Book.{Beginning, Event, enter, end-slot}
+use Rattle.books.specs.Book.{Beginning, Change, enter, end-slot}
 use Rattle.books.specs.Rule.{Rule, valid, without}
 use Rattle.books.specs.Rival.{Setting, lifted}
 use Rattle.books.specs.NoRegretRule.{EachClosing}
@@ -12,7 +12,7 @@ use Rattle.books.proofs.Walks.Left.{Left, enters, ends, left-enter, lef
 
 module _ (S : Setting) (q : Rule) (d : ℕ) (b : Beginning) (strong weak : ℕ → List Job → ℕ → Bool)
     (weaken : (s h : ℕ) (left : List Job) (x : ℕ) → Left h left → strong s left (valid s left x) ≡ true → weak s left (valid s left x) ≡ true) where
-  pub each-weaker : (past : List Event) (s : ℕ) (left : List Job) (es : List Event) (h : ℕ) → Left h left → lifted S h es ≡ true
+  pub each-weaker : (past : List Change) (s : ℕ) (left : List Job) (es : List Change) (h : ℕ) → Left h left → lifted S h es ≡ true
       → EachClosing strong q d b past s left es → EachClosing weak q d b past s left es
   unfolding EachClosing
   each-weaker past s left [] h l e a = tt

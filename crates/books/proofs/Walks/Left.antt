@@ -1,29 +1,29 @@
 -- The jobs left to a rule on a book with the limits lifted: their tickets rise from 1 and stay below those still to come.
-use mathlib.Core.Path.{_≡_, refl, sym, ap, _∙_, subst}
-use mathlib.Core.Bool.{Bool, true, false, not, _&&_}
+use mathlib.Core.Path.{_≡_, ap}
+use mathlib.Core.Bool.{Bool, true, not, _&&_}
 use mathlib.Core.Logic.{_⊎_, inl, inr}
-use mathlib.Core.List.{List, [], _∷_, _++_, map, List·Memᴰ, List·Memᴰ·head, List·Memᴰ·tail, List·Memᴰ·append-cases, List·Memᴰ·eq-of-singleton}
+use mathlib.Core.List.{List, [], _∷_, _++_, List·Memᴰ, List·Memᴰ·append-cases, List·Memᴰ·eq-of-singleton}
 use Prim.Native.Nat.{ℕ, suc, _≤_, _<_}
 use native.Mathlib.Omega.{arith}
 use lib.Dec.{ltb, leb, eqb}
 use borrow.Author.Tests.{ltb-true, leb-true}
-use Rattle.lists.specs.Select.{select, every}
+use Rattle.lists.specs.Select.{every}
 use Rattle.lists.specs.Rise.{rise}
 use Rattle.lists.proofs.Tests.{and-left, and-right}
 use Rattle.lists.proofs.Members.{every-mem}
 use Rattle.rule.specs.Job.{Job, job}
-use Rattle.books.specs.Book.{Beginning, Event, enter, end-slot, Book, entered, jobs}
+use Rattle.books.specs.Book.{Beginning, Change, enter, end-slot, Book, entered, jobs}
 use Rattle.books.specs.Rule.{without}
 use Rattle.books.specs.Rival.{Setting, fit, any-laxity, lifted, begun, Tried}
-use Rattle.books.proofs.Walks.Tickets.{tickets, Rising, rising-nil, rising-cons, rising-lower, rising-above, rising-select, rising-append, without-mem}
+use Rattle.books.proofs.Walks.Tickets.{tickets, Rising, rising-nil, rising-cons, rising-select, rising-append, without-mem}
 
--- an event that enters a job, taken apart
-pub record Enters (S : Setting) (h t g : ℕ) (es : List Event) : Type 0 where
+-- a change that enters a job, taken apart
+pub record Enters (S : Setting) (h t g : ℕ) (es : List Change) : Type 0 where
   pub above : h < t
   pub fits : fit S g ≡ true
   pub later : lifted S t es ≡ true
 
-pub enters : (S : Setting) (h t w g : ℕ) (es : List Event) → lifted S h (enter t w g ∷ es) ≡ true → Enters S h t g es
+pub enters : (S : Setting) (h t w g : ℕ) (es : List Change) → lifted S h (enter t w g ∷ es) ≡ true → Enters S h t g es
 unfolding lifted
 enters S h t w g es e =
     let a = ltb h t in
@@ -38,7 +38,7 @@ enters S h t w g es e =
       later = and-right (a && b && c) r e;
     }
 
-pub ends : (S : Setting) (h : ℕ) (es : List Event) → lifted S h (end-slot ∷ es) ≡ true → lifted S h es ≡ true
+pub ends : (S : Setting) (h : ℕ) (es : List Change) → lifted S h (end-slot ∷ es) ≡ true → lifted S h es ≡ true
 unfolding lifted
 ends S h es e = e
 
@@ -71,7 +71,7 @@ left-without {h} {L} t l =
     }
 
 -- the jobs still to come
-pub entered-rising : (S : Setting) (h s : ℕ) (es : List Event) → lifted S h es ≡ true → Rising h (entered s es)
+pub entered-rising : (S : Setting) (h s : ℕ) (es : List Change) → lifted S h es ≡ true → Rising h (entered s es)
 unfolding entered job
 entered-rising S h s [] e = rising-nil h
 entered-rising S h s (enter t w g ∷ es) e = let k = enters S h t w g es e in rising-cons (k .above) (entered-rising S t s es (k .later))
@@ -99,5 +99,5 @@ pub jobs-rising : (S : Setting) (B : Book) → Tried S B → Rising 0 (jobs B)
 unfolding jobs
 jobs-rising S B T =
     let l = begun-left S (B .beginning) (T .present) in
-    rising-append (B .beginning .highest) (B .beginning .jobs) (entered (B .beginning .slot) (B .events)) (l .rising) (l .most) (omega arith)
-    (entered-rising S (B .beginning .highest) (B .beginning .slot) (B .events) (T .later))
+    rising-append (B .beginning .highest) (B .beginning .jobs) (entered (B .beginning .slot) (B .changes)) (l .rising) (l .most) (omega arith)
+    (entered-rising S (B .beginning .highest) (B .beginning .slot) (B .changes) (T .later))

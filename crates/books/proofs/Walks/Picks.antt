@@ -1,18 +1,18 @@
--- The jobs that a rule bakes along the events, one for each closing or none, and the tickets of its choices.
+-- The jobs that a rule bakes along the changes, one for each closing or none, and the tickets of its choices.
 use mathlib.Core.Path.{_≡_, refl, sym, ap, ap₂, _∙_, subst}
-use mathlib.Core.Bool.{Bool, true, false, not, cond, _&&_, _||_}
+use mathlib.Core.Bool.{Bool, true, false, cond, _&&_, _||_}
 use mathlib.Core.Logic.{_⊎_, inl, inr}
 use mathlib.Core.Option.{Option, none, some}
 use mathlib.Core.List.{List, [], _∷_, _++_, map, append-assoc, List·Memᴰ, List·Memᴰ·head, List·Memᴰ·tail, Memᴰ·append-left, Memᴰ·append-right, List·Memᴰ·append-cases}
-use Prim.Native.Nat.{ℕ, suc, _≤_, _<_}
+use Prim.Native.Nat.{ℕ, suc, _≤_}
 use native.Mathlib.Omega.{arith}
 use lib.Dec.{leb, eqb}
 use borrow.Author.Tests.{leb-true, eqb-true}
-use Rattle.lists.specs.Select.{select, has}
-use Rattle.lists.proofs.Tests.{test, never, and-left, and-right, cond-true, cond-false}
+use Rattle.lists.specs.Select.{has}
+use Rattle.lists.proofs.Tests.{test, and-left, and-right, cond-true, cond-false}
 use Rattle.rule.specs.Job.{Job, job, in-date}
 use Rattle.rule.specs.Bake.{ticket-of}
-use Rattle.books.specs.Book.{Beginning, Event, enter, end-slot, entered}
+use Rattle.books.specs.Book.{Beginning, Change, enter, end-slot, entered}
 use Rattle.books.specs.Rule.{Rule, valid, without, choices}
 use Rattle.books.proofs.Walks.Tickets.{without-mem}
 
@@ -74,14 +74,14 @@ search s (x ∷ L) t = go (test (eqb (x .ticket) t && leb s (x .last))) (search 
           has-it = λ e. ap (λ b. b || rest) h ∙ k .has-it e;
         })
 
--- the jobs that a rule bakes along the events
-unfoldable pub picks : Rule → ℕ → Beginning → List Event → ℕ → List Job → List Event → List (Option Job)
+-- the jobs that a rule bakes along the changes
+unfoldable pub picks : Rule → ℕ → Beginning → List Change → ℕ → List Job → List Change → List (Option Job)
 picks q d b past s left [] = []
 picks q d b past s left (enter t w g ∷ es) = picks q d b (past ++ (enter t w g ∷ [])) s (left ++ (job t s w g ∷ [])) es
 picks q d b past s left (end-slot ∷ es) =
     found s left (q d b past) ∷ picks q d b (past ++ (end-slot ∷ [])) (suc s) (without (valid s left (q d b past)) left) es
 
-pub picks-choices : (q : Rule) (d : ℕ) (b : Beginning) (past : List Event) (s : ℕ) (left : List Job) (es : List Event)
+pub picks-choices : (q : Rule) (d : ℕ) (b : Beginning) (past : List Change) (s : ℕ) (left : List Job) (es : List Change)
     → choices q d b past s left es ≡ map ticket-of (picks q d b past s left es)
 unfolding choices picks
 picks-choices q d b past s left [] = refl
@@ -91,7 +91,7 @@ picks-choices q d b past s left (end-slot ∷ es) =
     (picks-choices q d b (past ++ (end-slot ∷ [])) (suc s) (without (valid s left (q d b past)) left) es)
 
 -- each is left, or still to come
-pub picks-from : (q : Rule) (d : ℕ) (b : Beginning) (past : List Event) (s : ℕ) (left : List Job) (es : List Event) (r : Job)
+pub picks-from : (q : Rule) (d : ℕ) (b : Beginning) (past : List Change) (s : ℕ) (left : List Job) (es : List Change) (r : Job)
     → List·Memᴰ (some r) (picks q d b past s left es) → List·Memᴰ r (left ++ entered s es)
 unfolding picks entered
 picks-from q d b past s left [] r m = absurd (elim m [ ])

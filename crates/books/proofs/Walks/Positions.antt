@@ -1,11 +1,9 @@
--- Where a rule stands after some events: the events so far, the slot, and the jobs left. What it bakes along more events comes after what it baked so far.
-use mathlib.Core.Path.{_≡_, refl, sym, ap, _∙_, subst}
-use mathlib.Core.Bool.{Bool, true, false, _&&_}
+-- Where a rule stands after some changes: the changes so far, the slot, and the jobs left. What it bakes along more changes comes after what it baked so far.
+use mathlib.Core.Path.{_≡_, refl, sym, ap, _∙_}
+use mathlib.Core.Bool.{Bool, true, _&&_}
 use mathlib.Core.Logic.{_⊎_, inl, inr}
-use mathlib.Core.Option.{Option}
 use mathlib.Core.List.{List, [], _∷_, _++_, append-assoc, append-nil, List·Memᴰ, List·Memᴰ·append-cases, List·Memᴰ·eq-of-singleton}
-use Prim.Native.Nat.{ℕ, suc, _+_, _≤_, _<_}
-use native.Mathlib.Omega.{arith}
+use Prim.Native.Nat.{ℕ, suc}
 use lib.Dec.{ltb, leb}
 use lib.ListN.{length}
 use Rattle.lists.specs.Select.{every}
@@ -13,7 +11,7 @@ use Rattle.lists.specs.Rise.{rise}
 use Rattle.lists.proofs.Tests.{and-left, and-right, and-intro}
 use Rattle.lists.proofs.Members.{every-mem}
 use Rattle.rule.specs.Job.{Job, job}
-use Rattle.books.specs.Book.{Beginning, Event, enter, end-slot, closings, raised}
+use Rattle.books.specs.Book.{Beginning, Change, enter, end-slot, closings, raised}
 use Rattle.books.specs.Rule.{Rule, valid, without}
 use Rattle.books.specs.Rival.{Setting, fit, any-laxity, lifted, begun}
 use Rattle.books.specs.NoRegretRule.{EachClosing, keeps-at, KeepsAlong}
@@ -21,27 +19,27 @@ use Rattle.books.proofs.Walks.Tickets.{tickets, without-mem}
 use Rattle.books.proofs.Walks.Left.{Left, enters, ends, left-enter, left-without}
 use Rattle.books.proofs.Walks.Picks.{picks}
 
-unfoldable pub past-after : List Event → List Event → List Event
+unfoldable pub past-after : List Change → List Change → List Change
 past-after past [] = past
 past-after past (e ∷ es) = past-after (past ++ (e ∷ [])) es
 
-unfoldable pub slot-after : ℕ → List Event → ℕ
+unfoldable pub slot-after : ℕ → List Change → ℕ
 slot-after s [] = s
 slot-after s (enter t w g ∷ es) = slot-after s es
 slot-after s (end-slot ∷ es) = slot-after (suc s) es
 
-unfoldable pub left-after : Rule → ℕ → Beginning → List Event → ℕ → List Job → List Event → List Job
+unfoldable pub left-after : Rule → ℕ → Beginning → List Change → ℕ → List Job → List Change → List Job
 left-after q d b past s left [] = left
 left-after q d b past s left (enter t w g ∷ es) = left-after q d b (past ++ (enter t w g ∷ [])) s (left ++ (job t s w g ∷ [])) es
 left-after q d b past s left (end-slot ∷ es) = left-after q d b (past ++ (end-slot ∷ [])) (suc s) (without (valid s left (q d b past)) left) es
 
-pub past-all : (past es : List Event) → past-after past es ≡ past ++ es
+pub past-all : (past es : List Change) → past-after past es ≡ past ++ es
 unfolding past-after
 past-all past [] = sym (append-nil past)
 past-all past (e ∷ es) = past-all (past ++ (e ∷ [])) es ∙ append-assoc past (e ∷ []) es
 
 module _ (q : Rule) (d : ℕ) (b : Beginning) where
-  pub picks-append : (past : List Event) (s : ℕ) (left : List Job) (es fs : List Event)
+  pub picks-append : (past : List Change) (s : ℕ) (left : List Job) (es fs : List Change)
       → picks q d b past s left (es ++ fs)
       ≡ picks q d b past s left es ++ picks q d b (past-after past es) (slot-after s es) (left-after q d b past s left es) fs
   unfolding picks past-after slot-after left-after
@@ -51,19 +49,19 @@ module _ (q : Rule) (d : ℕ) (b : Beginning) where
       ap (λ os. Rattle.books.proofs.Walks.Picks.found s left (q d b past) ∷ os)
       (picks-append (past ++ (end-slot ∷ [])) (suc s) (without (valid s left (q d b past)) left) es fs)
 
-  pub picks-length : (past : List Event) (s : ℕ) (left : List Job) (es : List Event) → length (picks q d b past s left es) ≡ closings es
+  pub picks-length : (past : List Change) (s : ℕ) (left : List Job) (es : List Change) → length (picks q d b past s left es) ≡ closings es
   unfolding picks closings
   picks-length past s left [] = refl
   picks-length past s left (enter t w g ∷ es) = picks-length (past ++ (enter t w g ∷ [])) s (left ++ (job t s w g ∷ [])) es
   picks-length past s left (end-slot ∷ es) = ap suc (picks-length (past ++ (end-slot ∷ [])) (suc s) (without (valid s left (q d b past)) left) es)
 
-  -- the closing after the events pre
-  abbrev pub keeps-there : ℕ → List Event → ℕ → List Job → List Event → Bool
+  -- the closing after the changes pre
+  abbrev pub keeps-there : ℕ → List Change → ℕ → List Job → List Change → Bool
   keeps-there j past s left pre =
       keeps-at j d (slot-after s pre) (left-after q d b past s left pre)
       (valid (slot-after s pre) (left-after q d b past s left pre) (q d b (past-after past pre)))
 
-  pub keeps-point : (j : ℕ) (past : List Event) (s : ℕ) (left : List Job) (pre post : List Event) → KeepsAlong j q d b past s left (pre ++ (end-slot ∷ post))
+  pub keeps-point : (j : ℕ) (past : List Change) (s : ℕ) (left : List Job) (pre post : List Change) → KeepsAlong j q d b past s left (pre ++ (end-slot ∷ post))
       → keeps-there j past s left pre ≡ true
   unfolding EachClosing past-after slot-after left-after
   keeps-point j past s left [] post a = a .0
@@ -71,13 +69,13 @@ module _ (q : Rule) (d : ℕ) (b : Beginning) where
   keeps-point j past s left (end-slot ∷ pre) post a =
       keeps-point j (past ++ (end-slot ∷ [])) (suc s) (without (valid s left (q d b past)) left) pre post (a .1)
 
-  -- what it keeps to after a closing, and after some events
-  pub keeps-end : (j : ℕ) (past : List Event) (s : ℕ) (left : List Job) (es : List Event) → KeepsAlong j q d b past s left (end-slot ∷ es)
+  -- what it keeps to after a closing, and after some changes
+  pub keeps-end : (j : ℕ) (past : List Change) (s : ℕ) (left : List Job) (es : List Change) → KeepsAlong j q d b past s left (end-slot ∷ es)
       → KeepsAlong j q d b (past ++ (end-slot ∷ [])) (suc s) (without (valid s left (q d b past)) left) es
   unfolding EachClosing
   keeps-end j past s left es a = a .1
 
-  pub keeps-after : (j : ℕ) (past : List Event) (s : ℕ) (left : List Job) (pre post : List Event) → KeepsAlong j q d b past s left (pre ++ post)
+  pub keeps-after : (j : ℕ) (past : List Change) (s : ℕ) (left : List Job) (pre post : List Change) → KeepsAlong j q d b past s left (pre ++ post)
       → KeepsAlong j q d b (past-after past pre) (slot-after s pre) (left-after q d b past s left pre) post
   unfolding EachClosing past-after slot-after left-after
   keeps-after j past s left [] post a = a
@@ -85,8 +83,8 @@ module _ (q : Rule) (d : ℕ) (b : Beginning) where
   keeps-after j past s left (end-slot ∷ pre) post a =
       keeps-after j (past ++ (end-slot ∷ [])) (suc s) (without (valid s left (q d b past)) left) pre post (a .1)
 
-  pub points-keep : (j : ℕ) (past : List Event) (s : ℕ) (left : List Job) (es : List Event)
-      → ((pre post : List Event) → es ≡ pre ++ (end-slot ∷ post) → keeps-there j past s left pre ≡ true) → KeepsAlong j q d b past s left es
+  pub points-keep : (j : ℕ) (past : List Change) (s : ℕ) (left : List Job) (es : List Change)
+      → ((pre post : List Change) → es ≡ pre ++ (end-slot ∷ post) → keeps-there j past s left pre ≡ true) → KeepsAlong j q d b past s left es
   unfolding EachClosing past-after slot-after left-after
   points-keep j past s left [] f = tt
   points-keep j past s left (enter t w g ∷ es) f =
@@ -110,8 +108,8 @@ begun-fit S b e x m =
     here : Job → Bool
     here r = leb (r .ticket) (b .highest) && fit S (r .grade) && leb (r .admitted) (b .slot)
 
--- the events so far are lifted, and what may come after them
-pub lifted-append : (S : Setting) (h : ℕ) (es fs : List Event) → lifted S h (es ++ fs) ≡ true → (lifted S h es ≡ true) × (lifted S (raised h es) fs ≡ true)
+-- the changes so far are lifted, and what may come after them
+pub lifted-append : (S : Setting) (h : ℕ) (es fs : List Change) → lifted S h (es ++ fs) ≡ true → (lifted S h es ≡ true) × (lifted S (raised h es) fs ≡ true)
 unfolding lifted raised
 lifted-append S h [] fs e = (refl, e)
 lifted-append S h (enter t w g ∷ es) fs e =
@@ -120,7 +118,7 @@ lifted-append S h (enter t w g ∷ es) fs e =
     (and-intro a (lifted S t es) (and-left a (lifted S t (es ++ fs)) e) (r .0), r .1)
 lifted-append S h (end-slot ∷ es) fs e = lifted-append S h es fs e
 
-pub lifted-join : (S : Setting) (h : ℕ) (es fs : List Event) → lifted S h es ≡ true → lifted S (raised h es) fs ≡ true → lifted S h (es ++ fs) ≡ true
+pub lifted-join : (S : Setting) (h : ℕ) (es fs : List Change) → lifted S h es ≡ true → lifted S (raised h es) fs ≡ true → lifted S h (es ++ fs) ≡ true
 unfolding lifted raised
 lifted-join S h [] fs e f = f
 lifted-join S h (enter t w g ∷ es) fs e f =
@@ -130,7 +128,7 @@ lifted-join S h (end-slot ∷ es) fs e f = lifted-join S h es fs e f
 
 module _ (S : Setting) (q : Rule) (d : ℕ) (b : Beginning) where
   -- the jobs left there
-  pub left-there : (past : List Event) (s : ℕ) (left : List Job) (es : List Event) (h : ℕ) → Left h left → lifted S h es ≡ true
+  pub left-there : (past : List Change) (s : ℕ) (left : List Job) (es : List Change) (h : ℕ) → Left h left → lifted S h es ≡ true
       → Left (raised h es) (left-after q d b past s left es)
   unfolding left-after raised
   left-there past s left [] h l e = l
@@ -140,7 +138,7 @@ module _ (S : Setting) (q : Rule) (d : ℕ) (b : Beginning) where
   left-there past s left (end-slot ∷ es) h l e =
       left-there (past ++ (end-slot ∷ [])) (suc s) (without (valid s left (q d b past)) left) es h (left-without (valid s left (q d b past)) l) (ends S h es e)
 
-  pub fit-there : (past : List Event) (s : ℕ) (left : List Job) (es : List Event) (h : ℕ) → AllFit S left → lifted S h es ≡ true
+  pub fit-there : (past : List Change) (s : ℕ) (left : List Job) (es : List Change) (h : ℕ) → AllFit S left → lifted S h es ≡ true
       → AllFit S (left-after q d b past s left es)
   unfolding left-after job
   fit-there past s left [] h a e = a

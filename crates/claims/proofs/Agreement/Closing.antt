@@ -13,7 +13,7 @@ use Rattle.lists.proofs.Members.{select-mem, select-cong, select-select, mem-ha
 use Rattle.lists.proofs.Counting.{count-none}
 use Rattle.rule.specs.Job.{Job, in-date}
 use Rattle.rule.specs.Bake.{baked, stays, ticket-of}
-use Rattle.books.specs.Book.{Beginning, Event, end-slot, Book, jobs, extend}
+use Rattle.books.specs.Book.{Beginning, Change, end-slot, Book, jobs, extend}
 use Rattle.books.specs.Rule.{valid, without}
 use Rattle.books.specs.NoRegretRule.{our-choice}
 use Rattle.board.specs.declared.Board.{Board}
@@ -61,7 +61,7 @@ staying s t x = turned (leb s (x .last)) (ltb s (x .last)) (eqb (x .ticket) t) (
 
 module _ (d s : ℕ) (b : Board) (B : Book) (left : List Job) (a : Agree d s b B left) where
   -- our rule's choice is the ticket of the board's answer
-  pub choice : (c : Beginning) (past : List Event) → our-choice d c past s left ≡ ticket-of (bakes b)
+  pub choice : (c : Beginning) (past : List Change) → our-choice d c past s left ≡ ticket-of (bakes b)
   unfolding our-choice bakes
   choice c past =
       ap₂ (λ A k. ticket-of (baked s k A)) (sym (a .on-board)) (sym (a .depth)) ∙ ap (λ k. ticket-of (baked k (b .depth) (held b))) (sym (a .slot))

@@ -2,19 +2,19 @@
 use mathlib.Core.Path.{_≡_, refl, sym, ap, subst}
 use mathlib.Core.Bool.{Bool, true, false, _&&_}
 use mathlib.Core.Logic.{_⊎_, inl, inr}
-use mathlib.Core.List.{List, [], _∷_, _++_}
+use mathlib.Core.List.{List, [], _∷_}
 use Prim.Native.Nat.{ℕ, _^_}
-use lib.Dec.{leb, ltb}
+use lib.Dec.{ltb}
 use borrow.Author.Tests.{lt-ltb, le-leb, eqb-true}
 use Rattle.lists.specs.Select.{every}
 use Rattle.lists.specs.Rise.{rise}
-use Rattle.lists.proofs.Tests.{test, and-left, and-right, and-intro}
-use Rattle.books.specs.Book.{Beginning, Event, enter, end-slot, Book, present, raised, highest, extend}
-use Rattle.books.specs.Rival.{Setting, fit, lifted, begun, Tried, any-laxity}
+use Rattle.lists.proofs.Tests.{test, and-intro}
+use Rattle.books.specs.Book.{Beginning, enter, Book, present, highest, extend}
+use Rattle.books.specs.Rival.{fit, lifted, begun, Tried, any-laxity}
 use Rattle.board.specs.declared.Board.{Board}
 use Rattle.board.proofs.Calls.Rows.{admits}
 use Rattle.claims.specs.Calls.{Call, admit, close}
-use Rattle.claims.specs.DayBook.{new-book, entered-now, lets-through, event-of, book-after, drawn, day-book}
+use Rattle.claims.specs.DayBook.{new-book, entered-now, lets-through, change-of, book-after, drawn, day-book}
 use Rattle.claims.specs.Demand3.{setting, book-of}
 use Rattle.books.proofs.Walks.Positions.{lifted-join}
 use Rattle.claims.proofs.Drawing.Added.{book-through, book-stopped}
@@ -22,7 +22,7 @@ use Rattle.claims.proofs.Drawing.PlanOfOurRule.{first-book, book-added}
 
 module _ (b : Board) (begins : Beginning → Bool) where
   Lifted : Book → Type 0
-  Lifted B = lifted (setting b begins) (B .beginning .highest) (B .events) ≡ true
+  Lifted B = lifted (setting b begins) (B .beginning .highest) (B .changes) ≡ true
 
   entered-lifted : (B : Book) (t w g : ℕ) → lets-through (b .depth) B (admit t w g) ≡ true → lifted (setting b begins) (highest B) (enter t w g ∷ []) ≡ true
   unfolding lets-through lifted any-laxity fit setting
@@ -34,10 +34,10 @@ module _ (b : Board) (begins : Beginning → Bool) where
       (and-intro (ltb g (2 ^ b .depth)) true (lt-ltb g (2 ^ b .depth) (r .graded)) refl))
       refl
 
-  event-lifted : (B : Book) (c : Call) → lets-through (b .depth) B c ≡ true → lifted (setting b begins) (highest B) (event-of c ∷ []) ≡ true
-  unfolding event-of lifted
-  event-lifted B (admit t w g) h = entered-lifted B t w g h
-  event-lifted B (close lent) h = refl
+  change-lifted : (B : Book) (c : Call) → lets-through (b .depth) B c ≡ true → lifted (setting b begins) (highest B) (change-of c ∷ []) ≡ true
+  unfolding change-of lifted
+  change-lifted B (admit t w g) h = entered-lifted B t w g h
+  change-lifted B (close lent) h = refl
 
   after-lifted : (B : Book) (c : Call) → Lifted B → Lifted (book-after (b .depth) B c)
   unfolding Lifted extend highest
@@ -46,7 +46,7 @@ module _ (b : Board) (begins : Beginning → Bool) where
       go : (lets-through (b .depth) B c ≡ true) ⊎ (lets-through (b .depth) B c ≡ false) → Lifted (book-after (b .depth) B c)
       go (inl h) =
           subst Lifted (sym (book-through (b .depth) B c h))
-          (lifted-join (setting b begins) (B .beginning .highest) (B .events) (event-of c ∷ []) l (event-lifted B c h))
+          (lifted-join (setting b begins) (B .beginning .highest) (B .changes) (change-of c ∷ []) l (change-lifted B c h))
       go (inr h) = subst Lifted (sym (book-stopped (b .depth) B c h)) l
 
   drawn-lifted : (B : Book) (cs : List Call) → Lifted B → Lifted (drawn (b .depth) B cs)

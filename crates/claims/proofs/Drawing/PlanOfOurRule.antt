@@ -25,8 +25,8 @@ use Rattle.claims.proofs.Drawing.NamedAsChosen.{named-as-chosen}
 abbrev pub first-book : Board → Book
 first-book b = new-book (b .slot .0) (b .highest)
 
--- the day book has that beginning, and the events that the calls add
-pub book-added : (b : Board) (cs : List Call) → book-of b cs ≡ record { beginning = first-book b .beginning; events = added (b .depth) (first-book b) cs }
+-- the day book has that beginning, and the changes that the calls add
+pub book-added : (b : Board) (cs : List Call) → book-of b cs ≡ record { beginning = first-book b .beginning; changes = added (b .depth) (first-book b) cs }
 unfolding book-of day-book new-book
 book-added b cs = drawn-added (b .depth) (first-book b) cs
 
@@ -48,12 +48,12 @@ module _ (b : Board) (s : sound b ≡ true) (empty : b .count ≡ 0) where
   -- the tickets named in the answers
   pub named-by-our-rule : (cs : List Call)
       → named (b .depth) (first-book b) b cs
-      ≡ choices our-rule (b .depth) (book-of b cs .beginning) [] (book-of b cs .beginning .slot) (book-of b cs .beginning .jobs) (book-of b cs .events)
+      ≡ choices our-rule (b .depth) (book-of b cs .beginning) [] (book-of b cs .beginning .slot) (book-of b cs .beginning .jobs) (book-of b cs .changes)
   unfolding our-rule new-book
   named-by-our-rule cs =
       named-as-chosen (b .depth) (b .slot .0) b (first-book b) [] agree-first cs
       ∙ sym (choices-of-choice our-choice (b .depth) (first-book b .beginning) (added (b .depth) (first-book b) cs))
-      ∙ sym (ap (λ (B : Book). choices our-rule (b .depth) (B .beginning) [] (B .beginning .slot) (B .beginning .jobs) (B .events)) (book-added b cs))
+      ∙ sym (ap (λ (B : Book). choices our-rule (b .depth) (B .beginning) [] (B .beginning .slot) (B .beginning .jobs) (B .changes)) (book-added b cs))
 
   pub plan-of-our-rule : (cs : List Call) → our-plan b cs ≡ made-by our-rule (b .depth) (book-of b cs)
   unfolding our-plan made-by new-book

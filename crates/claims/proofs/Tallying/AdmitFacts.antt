@@ -1,11 +1,11 @@
 -- The events of an admitting.
-use mathlib.Core.Path.{_≡_, refl, sym, ap, _∙_, subst}
-use mathlib.Core.Bool.{true, cond}
+use mathlib.Core.Path.{_≡_, refl, sym, ap, _∙_}
+use mathlib.Core.Bool.{true}
 use mathlib.Core.List.{[], _∷_, _++_, List·Memᴰ·eq-of-singleton}
 use Prim.Native.Nat.{ℕ, zero, suc, _+_, _^_, _≤_, _<_}
 use native.Mathlib.Omega.{arith}
 use lib.Dec.{eqb}
-use borrow.Author.Tests.{eq-eqb, ne-eqb}
+use borrow.Author.Tests.{eq-eqb}
 use Rattle.lists.specs.Select.{one-if, how-many}
 use Rattle.lists.proofs.Counting.{one-if-yes, one-if-most, count-append}
 use Rattle.rule.specs.Job.{Job, job}
@@ -14,15 +14,15 @@ use Rattle.board.specs.Limits.{most-in-slot, last-slot, deepest}
 use Rattle.board.specs.Held.{held, in-slot}
 use Rattle.board.specs.Sound.{sound}
 use Rattle.board.specs.Admit.{admit-number, with-job, admitted-if, admitted}
+use Rattle.board.specs.Events.{admitted-kind, baked-kind, given-up-kind, event, unless-refused, admit-events}
 use Rattle.board.proofs.Soundness.Facts.{SoundFacts, admitted-in}
 use Rattle.board.proofs.Soundness.Apart.{facts}
 use Rattle.board.proofs.Soundness.FreePlace.{room}
-use Rattle.board.proofs.Tallies.CountAt.{Cell}
+use Rattle.board.proofs.Tallies.Kinds.{same-cell, admitted-cell}
 use Rattle.board.proofs.Calls.Rows.{Admits, admits}
 use Rattle.board.proofs.Calls.HeldAfter.{held-with-job}
 use Rattle.board.proofs.Calls.SoundAfter.{admit-number-sound, with-job-sound}
-use Rattle.claims.specs.Calls.{admit, board-after}
-use Rattle.claims.specs.Balance.{Noted, noted, on-board}
+use Rattle.claims.specs.Balance.{on-board}
 use Rattle.claims.proofs.Tallying.RunFacts.{still, Leads, leads-nowhere}
 
 -- a grade of a sound board has a count
@@ -67,24 +67,21 @@ module _ (b : Board) (t w g : ℕ) (s : sound b ≡ true) (e : admit-number b t 
   unfolding still with-job most-in-slot last-slot
   less = omega (arith, one-more-now, rows .room, rows .going, known .to-last)
 
-  taken : Leads b (record { kind = 0; grade = g } ∷ []) (with-job b t w g)
-  unfolding how-many one-if
+  taken : Leads b (event admitted-kind g ∷ []) (with-job b t w g)
+  unfolding how-many one-if admitted-kind baked-kind given-up-kind
   taken =
       record {
         is-sound = with-job-sound b t w g s e;
-        cells = λ x m.
-            let r : Cell 0 g = record { kind = omega arith; grade = eight-grades (b .depth) g (known .shallow) (rows .graded) } in
-            subst (λ (y : Noted). Cell (y .kind) (y .grade)) (sym (List·Memᴰ·eq-of-singleton m)) r;
+        cells = λ x m. same-cell (List·Memᴰ·eq-of-singleton m) (admitted-cell (eight-grades (b .depth) g (known .shallow) (rows .graded)));
         balance = λ n. omega (arith, one-more n);
         intake = λ n. omega (arith, less, one-if-most (eqb g n));
       }
 
-pub admit-leads : (b : Board) (t w g : ℕ) → sound b ≡ true → Leads b (noted b (admit t w g)) (board-after b (admit t w g))
-unfolding noted board-after admitted admitted-if
+pub admit-leads : (b : Board) (t w g : ℕ) → sound b ≡ true → Leads b (admit-events b t w g) (admitted b t w g .board)
+unfolding admit-events unless-refused admitted admitted-if
 admit-leads b t w g s = go (admit-number b t w g) refl
   where
     go : (n : ℕ) → admit-number b t w g ≡ n
-        → Leads b (cond (eqb (admitted-if n b t w g .refusal) 0) (record { kind = 0; grade = g } ∷ []) []) (admitted-if n b t w g .board)
+        → Leads b (unless-refused (admitted-if n b t w g .refusal) (event admitted-kind g ∷ [])) (admitted-if n b t w g .board)
     go zero e = taken b t w g s e
-    go (suc n) e =
-        subst (λ c. Leads b (cond c (record { kind = 0; grade = g } ∷ []) []) b) (sym (ne-eqb (suc n) 0 (omega arith))) (leads-nowhere b s)
+    go (suc n) e = leads-nowhere b s

@@ -2,7 +2,7 @@
 use mathlib.Core.Path.{_≡_, ap}
 use mathlib.Core.Bool.{true}
 use mathlib.Core.List.{List, [], _∷_}
-use Prim.Native.Nat.{ℕ, zero, suc, _≤_}
+use Prim.Native.Nat.{ℕ, _+_, _≤_}
 use native.Mathlib.Omega.{arith}
 use lib.Dec.{eqb}
 use lib.ListN.{length-replicate}
@@ -11,64 +11,70 @@ use Rattle.rule.specs.Job.{Job}
 use Rattle.board.specs.declared.Board.{Board}
 use Rattle.board.specs.Limits.{most-in-slot, last-slot}
 use Rattle.board.specs.Sound.{sound}
-use Rattle.board.specs.Tally.{zero-tally}
+use Rattle.board.specs.Tally.{zero-tally, count-at}
+use Rattle.board.specs.Events.{admitted-kind, baked-kind, given-up-kind, Event, fed}
 use Rattle.board.proofs.Soundness.Facts.{SoundFacts}
 use Rattle.board.proofs.Soundness.HeldCount.{no-jobs}
 use Rattle.board.proofs.Soundness.Apart.{facts}
 use Rattle.board.proofs.Tallies.CountAt.{Cell, zero-count}
+use Rattle.board.proofs.Tallies.Kinds.{each-kind, admitted-cell, baked-cell, given-up-cell}
+use Rattle.board.proofs.Tallies.FedCounts.{times, FedFacts, fed-facts}
 use Rattle.claims.specs.Calls.{Call, admit, close, board-after}
-use Rattle.claims.specs.Balance.{noted, board-after-all, noted-all, on-board, Balanced, Balance}
-use Rattle.claims.proofs.Tallying.FedCounts.{times, FedFacts, fed-facts}
+use Rattle.claims.specs.Balance.{events-of, board-after-all, all-events, tally-after-all, on-board, Balance}
 use Rattle.claims.proofs.Tallying.RunFacts.{still, Leads, leads-nowhere, leads-on}
 use Rattle.claims.proofs.Tallying.AdmitFacts.{admit-leads}
 use Rattle.claims.proofs.Tallying.CloseFacts.{close-leads}
-
-call-leads : (b : Board) (c : Call) → sound b ≡ true → Leads b (noted b c) (board-after b c)
-call-leads b (admit t w g) s = admit-leads b t w g s
-call-leads b (close lent) s = close-leads b lent s
-
-run-leads : (b : Board) (cs : List Call) → sound b ≡ true → Leads b (noted-all b cs) (board-after-all b cs)
-unfolding noted-all board-after-all
-run-leads b [] s = leads-nowhere b s
-run-leads b (c ∷ cs) s =
-    let first = call-leads b c s in
-    leads-on b (noted b c) (board-after b c) (noted-all (board-after b c) cs) (board-after-all (board-after b c) cs) first (run-leads (board-after b c) cs (first .is-sound))
 
 -- no more than 8,000,000 jobs can be admitted in a run
 at-most : (b : Board) → SoundFacts b → still b ≤ 8_000_000
 unfolding still most-in-slot last-slot
 at-most b f = omega (arith, f .from-first)
 
-module _ (b : Board) (s : sound b ≡ true) (empty : b .count ≡ 0) (cs : List Call) where
-  run : Leads b (noted-all b cs) (board-after-all b cs)
-  run = run-leads b cs s
-
+-- events that lead from an empty board to another
+module _ {b c : Board} {es : List Event} (s : sound b ≡ true) (empty : b .count ≡ 0) (run : Leads b es c) where
   no-grade : (g : ℕ) → on-board g b ≡ 0
   unfolding on-board how-many
   no-grade g = ap (how-many (λ (r : Job). eqb (r .grade) g)) (no-jobs b empty)
 
-  below : (k g : ℕ) → Cell k g → times k g (noted-all b cs) ≤ 8_000_000
-  below zero g c = omega (arith, run .intake g, at-most b (facts b s))
-  below (suc zero) g c = omega (arith, run .intake g, run .balance g, no-grade g, at-most b (facts b s))
-  below (suc (suc zero)) g c = omega (arith, run .intake g, run .balance g, no-grade g, at-most b (facts b s))
-  below (suc (suc (suc k))) g c = absurd (omega (arith, c .kind))
+  below : (k g : ℕ) → Cell k g → times k g es ≤ 8_000_000
+  below k g =
+      each-kind (λ n. times n g es ≤ 8_000_000)
+      (omega (arith, run .intake g, at-most b (facts b s)))
+      (omega (arith, run .intake g, run .balance g, no-grade g, at-most b (facts b s)))
+      (omega (arith, run .intake g, run .balance g, no-grade g, at-most b (facts b s))) k g
 
-  fed-run : FedFacts zero-tally (noted-all b cs)
+  pub fed-run : FedFacts zero-tally es
   unfolding zero-tally
-  fed-run = fed-facts zero-tally (noted-all b cs) (length-replicate {A = ℕ} 24 0) (run .cells) (λ k g c. omega (arith, below k g c, zero-count k g c))
+  fed-run = fed-facts zero-tally es (length-replicate {A = ℕ} 24 0) (run .cells) (λ k g h. omega (arith, below k g h, zero-count k g h))
 
-  balanced : Balanced b cs
-  balanced =
-      record {
-        taken = fed-run .all-taken;
-        balance = λ g h.
-            let cell : (k : ℕ) → k ≤ 2 → Cell k g = λ k i. record { kind = i; grade = omega arith } in
-            let c₀ : Cell 0 g = cell 0 (omega arith) in
-            let c₁ : Cell 1 g = cell 1 (omega arith) in
-            let c₂ : Cell 2 g = cell 2 (omega arith) in
-            omega (arith, run .balance g, no-grade g, fed-run .counts 0 g c₀, fed-run .counts 1 g c₁, fed-run .counts 2 g c₂, zero-count 0 g c₀, zero-count 1 g c₁, zero-count 2 g c₂);
-      }
+  in-balance : (g : ℕ) → g ≤ 7
+      → count-at (fed zero-tally es) admitted-kind g ≡ count-at (fed zero-tally es) baked-kind g + count-at (fed zero-tally es) given-up-kind g + on-board g c
+  in-balance g h =
+      let fed-at : (k : ℕ) → Cell k g → count-at (fed zero-tally es) k g ≡ times k g es =
+      λ k i. omega (arith, fed-run .counts k g i, zero-count k g i) in
+      omega (
+        arith,
+        run .balance g,
+        no-grade g,
+        fed-at admitted-kind (admitted-cell h),
+        fed-at baked-kind (baked-cell h),
+        fed-at given-up-kind (given-up-cell h),
+      )
+
+call-leads : (b : Board) (c : Call) → sound b ≡ true → Leads b (events-of b c) (board-after b c)
+unfolding events-of board-after
+call-leads b (admit t w g) s = admit-leads b t w g s
+call-leads b (close lent) s = close-leads b lent s
+
+run-leads : (b : Board) (cs : List Call) → sound b ≡ true → Leads b (all-events b cs) (board-after-all b cs)
+unfolding all-events board-after-all
+run-leads b [] s = leads-nowhere b s
+run-leads b (c ∷ cs) s =
+    let first = call-leads b c s in
+    leads-on first (run-leads (board-after b c) cs (first .is-sound))
 
 pub balance : Balance
-unfolding Balance
-balance b s empty cs = balanced b s empty cs
+unfolding Balance tally-after-all
+balance b s empty cs =
+    let run = run-leads b cs s in
+    record { taken = fed-run s empty run .none-refused; balance = λ g h. in-balance s empty run g (omega arith) }

@@ -12,20 +12,21 @@ use Rattle.board.specs.declared.Board.{Board}
 use Rattle.board.specs.Limits.{most-in-slot, last-slot}
 use Rattle.board.specs.Held.{in-slot}
 use Rattle.board.specs.Sound.{sound}
+use Rattle.board.specs.Events.{admitted-kind, baked-kind, given-up-kind, Event}
 use Rattle.board.proofs.Tallies.CountAt.{Cell}
-use Rattle.claims.specs.Balance.{Noted, on-board}
-use Rattle.claims.proofs.Tallying.FedCounts.{times}
+use Rattle.board.proofs.Tallies.FedCounts.{times}
+use Rattle.claims.specs.Balance.{on-board}
 
 -- how many jobs can still be admitted to a board: eight for each slot before 1,000,001, less those of its slot
 unfoldable pub still : Board → ℕ
 still b = most-in-slot * (suc last-slot - b .slot .0) - in-slot b
 
 -- the events es lead from the board b to the board c
-pub record Leads (b : Board) (es : List Noted) (c : Board) : Type 0 where
+pub record Leads (b : Board) (es : List Event) (c : Board) : Type 0 where
   pub is-sound : sound c ≡ true
-  pub cells : (e : Noted) → List·Memᴰ e es → Cell (e .kind) (e .grade)
-  pub balance : (g : ℕ) → times 0 g es + on-board g b ≡ times 1 g es + times 2 g es + on-board g c
-  pub intake : (g : ℕ) → times 0 g es + still c ≤ still b
+  pub cells : (e : Event) → List·Memᴰ e es → Cell (e .kind) (e .grade)
+  pub balance : (g : ℕ) → times admitted-kind g es + on-board g b ≡ times baked-kind g es + times given-up-kind g es + on-board g c
+  pub intake : (g : ℕ) → times admitted-kind g es + still c ≤ still b
 
 pub leads-nowhere : (b : Board) → sound b ≡ true → Leads b [] b
 unfolding how-many
@@ -37,18 +38,18 @@ leads-nowhere b s =
       intake = λ g. omega arith;
     }
 
-pub leads-on : (b : Board) (es : List Noted) (c : Board) (fs : List Noted) (d : Board) → Leads b es c → Leads c fs d → Leads b (es ++ fs) d
-leads-on b es c fs d h k =
+pub leads-on : {b c d : Board} {es fs : List Event} → Leads b es c → Leads c fs d → Leads b (es ++ fs) d
+leads-on {es = es} {fs = fs} h k =
     record {
       is-sound = k .is-sound;
       cells = λ e m. go e (List·Memᴰ·append-cases es m);
-      balance = λ g. omega (arith, h .balance g, k .balance g, joined 0 g, joined 1 g, joined 2 g);
-      intake = λ g. omega (arith, h .intake g, k .intake g, joined 0 g);
+      balance = λ g. omega (arith, h .balance g, k .balance g, joined admitted-kind g, joined baked-kind g, joined given-up-kind g);
+      intake = λ g. omega (arith, h .intake g, k .intake g, joined admitted-kind g);
     }
   where
     joined : (n g : ℕ) → times n g (es ++ fs) ≡ times n g es + times n g fs
-    joined n g = count-append (λ (e : Noted). eqb (e .kind) n && eqb (e .grade) g) es fs
+    joined n g = count-append (λ (e : Event). eqb (e .kind) n && eqb (e .grade) g) es fs
 
-    go : (e : Noted) → List·Memᴰ e es ⊎ List·Memᴰ e fs → Cell (e .kind) (e .grade)
+    go : (e : Event) → List·Memᴰ e es ⊎ List·Memᴰ e fs → Cell (e .kind) (e .grade)
     go e (inl m) = h .cells e m
     go e (inr m) = k .cells e m

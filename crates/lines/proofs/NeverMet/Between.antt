@@ -1,7 +1,7 @@
--- What holds between two lines: no board is open and the tally is zero, or both come from calls on a board that was opened.
+-- What holds between two lines: no board is open and the tally is zero, or both come from events that lead there from a board that was opened.
 use mathlib.Core.Path.{_≡_, refl, sym, ap, _∙_, subst}
 use mathlib.Core.Bool.{true}
-use mathlib.Core.List.{List, [], _∷_, _++_}
+use mathlib.Core.List.{List, [], _++_}
 use mathlib.Core.Option.{Option, none, some}
 use Prim.Native.Nat.{ℕ, _≤_}
 use Rattle.board.specs.declared.Board.{Board}
@@ -10,65 +10,51 @@ use Rattle.board.specs.Limits.{deepest}
 use Rattle.board.specs.Sound.{sound}
 use Rattle.board.specs.Open.{opened}
 use Rattle.board.specs.Tally.{zero-tally}
+use Rattle.board.specs.Events.{Event, fed, all-taken}
 use Rattle.board.proofs.Calls.SoundAfterOpening.{opened-sound, opened-count}
-use Rattle.claims.specs.Calls.{Call, board-after}
-use Rattle.claims.specs.Balance.{noted, board-after-all, noted-all, fed, AllTaken, Balance}
-use Rattle.claims.proofs.Tallying.InBalance.{balance}
-use Rattle.lines.proofs.NeverMet.OneMore.{board-one-more, noted-one-more, fed-append, taken-append, sound-after-all}
+use Rattle.board.proofs.Tallies.Fed.{fed-append, taken-append}
+use Rattle.claims.proofs.Tallying.RunFacts.{Leads, leads-nowhere, leads-on}
+use Rattle.claims.proofs.Tallying.InBalance.{fed-run}
 
--- the board and the tally are those after some calls on a sound board without jobs
+-- events lead to the board from a sound one without jobs, and the tally is a zero tally fed them
 pub record Run (b : Board) (y : Tally) : Type 0 where
   pub start : Board
   pub is-sound : sound start ≡ true
   pub empty : start .count ≡ 0
-  pub calls : List Call
-  pub board : b ≡ board-after-all start calls
-  pub tally : y ≡ fed zero-tally (noted-all start calls)
+  pub events : List Event
+  pub leads : Leads start events b
+  pub tally : y ≡ fed zero-tally events
 
 unfoldable pub InRun : Option Board → Tally → Type 0
 InRun none y = y ≡ zero-tally
 InRun (some b) y = Run b y
 
 pub run-opened : (d : ℕ) → d ≤ deepest → Run (opened d .board) zero-tally
-unfolding board-after-all noted-all fed
+unfolding fed
 run-opened d h =
     record {
       start = opened d .board;
       is-sound = opened-sound d h;
       empty = opened-count d h;
-      calls = [];
-      board = refl;
+      events = [];
+      leads = leads-nowhere (opened d .board) (opened-sound d h);
       tally = refl;
     }
 
-module _ {b : Board} {y : Tally} (r : Run b y) where
-  pub run-sound : sound b ≡ true
-  run-sound = ap sound (r .board) ∙ sound-after-all (r .start) (r .calls) (r .is-sound)
+module _ {b c : Board} {y : Tally} {es : List Event} (r : Run b y) (l : Leads b es c) where
+  -- the tally refuses no event that leads on
+  pub run-taken : all-taken y es ≡ true
+  run-taken =
+      subst (λ x. all-taken x es ≡ true) (sym (r .tally))
+      (taken-append zero-tally (r .events) es (fed-run (r .is-sound) (r .empty) (leads-on (r .leads) l) .none-refused))
 
-  module _ (c : Call) where
-    -- the events of the calls and of one more
-    along : noted-all (r .start) (r .calls ++ (c ∷ [])) ≡ noted-all (r .start) (r .calls) ++ noted b c
-    along =
-        noted-one-more (r .start) (r .calls) c ∙ ap (λ x. noted-all (r .start) (r .calls) ++ noted x c) (sym (r .board))
-
-    -- the tally refuses no event of a call
-    pub run-taken : AllTaken y (noted b c)
-    unfolding Balance
-    run-taken =
-        let all : AllTaken zero-tally (noted-all (r .start) (r .calls) ++ noted b c) =
-        subst (AllTaken zero-tally) along (balance (r .start) (r .is-sound) (r .empty) (r .calls ++ (c ∷ [])) .taken) in
-        subst (λ x. AllTaken x (noted b c)) (sym (r .tally)) (taken-append zero-tally (noted-all (r .start) (r .calls)) (noted b c) all)
-
-    pub run-on : Run (board-after b c) (fed y (noted b c))
-    run-on =
-        record {
-          start = r .start;
-          is-sound = r .is-sound;
-          empty = r .empty;
-          calls = r .calls ++ (c ∷ []);
-          board = ap (λ x. board-after x c) (r .board) ∙ sym (board-one-more (r .start) (r .calls) c);
-          tally =
-              ap (λ x. fed x (noted b c)) (r .tally)
-              ∙ sym (fed-append zero-tally (noted-all (r .start) (r .calls)) (noted b c))
-              ∙ ap (fed zero-tally) (sym along);
-        }
+  pub run-on : Run c (fed y es)
+  run-on =
+      record {
+        start = r .start;
+        is-sound = r .is-sound;
+        empty = r .empty;
+        events = r .events ++ es;
+        leads = leads-on (r .leads) l;
+        tally = ap (λ x. fed x es) (r .tally) ∙ sym (fed-append zero-tally (r .events) es);
+      }

@@ -1,5 +1,5 @@
 -- A line refused, a board opened and a job admitted: the day after it, and what is printed.
-use mathlib.Core.Path.{_≡_, refl, sym, subst}
+use mathlib.Core.Path.{_≡_, refl, sym, ap, _∙_, subst}
 use mathlib.Core.Bool.{true}
 use mathlib.Core.List.{[], _∷_}
 use mathlib.Core.Option.{some}
@@ -16,8 +16,10 @@ use Rattle.board.specs.Sound.{sound}
 use Rattle.board.specs.Open.{opened}
 use Rattle.board.specs.Admit.{admitted}
 use Rattle.board.specs.Tally.{counted}
+use Rattle.board.specs.Events.{admitted-kind, admit-events, fed}
 use Rattle.board.proofs.Calls.SoundAfter.{admitted-sound}
 use Rattle.board.proofs.Calls.SoundAfterOpening.{opened-sound}
+use Rattle.board.proofs.Tallies.Fed.{let-through}
 use Rattle.lines.specs.Bytes.{Bytes, letter-A, letter-D, letter-R}
 use Rattle.lines.specs.Printing.{printed}
 use Rattle.lines.specs.Session.{Session, Answer, refused, answer-open, answer-admit}
@@ -76,11 +78,18 @@ module _ (day : Day) (i t w g : ℕ) (a : Admitted) (e : a ≡ admitted (day .bo
 
   admit-answer : a .refusal ≡ 0
       → answer-admit (session-of day) (day .board) i t w g
-      ≡ record { output = printed letter-A (t ∷ a .last .0 ∷ []); session = open-session (a .board) (counted (day .tally) 0 g .tally) }
+      ≡ record {
+        output = printed letter-A (t ∷ a .last .0 ∷ []);
+        session = open-session (a .board) (fed (day .tally) (admit-events (day .board) t w g));
+      }
   unfolding answer-admit session-of
   admit-answer h = rw (← e) (cond-true _ _ _ (eq-eqb (a .refusal) 0 h))
 
+  one-fed : a .refusal ≡ 0 → fed (day .tally) (admit-events (day .board) t w g) ≡ counted (day .tally) admitted-kind g .tally
+  unfolding admit-events fed
+  one-fed h = rw (← e) (ap (fed (day .tally)) (let-through (a .refusal) _ h))
+
   pub admit-given : {out : Bytes} {at end : ℕ} {out' : Bytes} (y : Tally) → sound (day .board) ≡ true → a .refusal ≡ 0
-      → LineAt (printed letter-A (t ∷ a .last .0 ∷ [])) out at end out' → y ≡ counted (day .tally) 0 g .tally
+      → LineAt (printed letter-A (t ∷ a .last .0 ∷ [])) out at end out' → y ≡ counted (day .tally) admitted-kind g .tally
       → Given (answer-admit (session-of day) (day .board) i t w g) out at (said (a .board) y end) out'
-  admit-given y s h p c = given-as (admit-answer h) (rw c (line-given _ (a .board) _ (rw e (admitted-sound (day .board) t w g s)) p))
+  admit-given y s h p c = given-as (admit-answer h) (rw (c ∙ sym (one-fed h)) (line-given _ (a .board) _ (rw e (admitted-sound (day .board) t w g s)) p))

@@ -1,7 +1,7 @@
 -- A slot closed: the day after it, and what is printed.
-use mathlib.Core.Path.{_≡_, ap, _∙_}
+use mathlib.Core.Path.{_≡_, sym, ap, _∙_}
 use mathlib.Core.Bool.{true}
-use mathlib.Core.List.{List, [], _∷_, _++_, map}
+use mathlib.Core.List.{List, [], _∷_, _++_, map, map-map}
 use Prim.Native.Nat.{ℕ, _+_, _*_, _≤_}
 use native.Mathlib.Omega.{arith}
 use lib.ListN.{length, length-append, length-map}
@@ -14,16 +14,18 @@ use Rattle.board.specs.declared.Closed.{Closed}
 use Rattle.board.specs.Limits.{places-held}
 use Rattle.board.specs.Sound.{sound}
 use Rattle.board.specs.Close.{closed, given-up}
+use Rattle.board.specs.Events.{given-up-kind, event, baked-events, given-up-events, closing-events, close-events, fed}
 use Rattle.board.proofs.Calls.SoundAfter.{closed-sound}
+use Rattle.board.proofs.Tallies.Fed.{let-through, fed-append}
 use Rattle.lines.specs.Bytes.{Bytes, letter-B}
 use Rattle.lines.specs.Printing.{printed}
-use Rattle.lines.specs.Session.{refused, printed-gone, count-each, count-baked, answer-close}
+use Rattle.lines.specs.Session.{refused, printed-gone, answer-close}
 use Rattle.printing.specs.Lines.{put}
 use Rattle.printing.proofs.Puts.{put-append}
 use Rattle.program.specs.declared.session.Day.{Day}
-use Rattle.program.specs.Days.{session-of, GoodDay, line-room, Given, printed-each, count-grades}
+use Rattle.program.specs.Days.{session-of, GoodDay, line-room, Given, printed-each}
 use Rattle.program.proofs.Answering.Answers.{said, open-session, LineAt, given-as}
-use Rattle.program.proofs.Answering.Entries.{few-given-up, printed-jobs, counted-jobs}
+use Rattle.program.proofs.Answering.Entries.{few-given-up, printed-jobs}
 
 abbrev first-line : Board → Closed → Bytes
 first-line b c = printed letter-B (b .slot .0 ∷ c .ticket ∷ c .grade ∷ c .expired ∷ [])
@@ -37,17 +39,28 @@ module _ (day : Day) (i : ℕ) (c : Closed) (e : c ≡ closed (day .board) place
       → answer-close (session-of day) (day .board) i
       ≡ record {
         output = first-line (day .board) c ++ printed-gone (day .board .slot .0) (given-up (day .board));
-        session = open-session (c .board) (count-each 2 (given-up (day .board)) (count-baked (c .ticket) (c .grade) (day .tally)));
+        session = open-session (c .board) (fed (day .tally) (close-events (day .board) places-held));
       }
   unfolding answer-close session-of
   close-answer h = rw (← e) (cond-true _ _ _ (eq-eqb (c .refusal) 0 h))
+
+  all-fed : c .refusal ≡ 0 → (G : List ℕ) → G ≡ map (λ (r : Job). r .grade) (given-up (day .board))
+      → fed (fed (day .tally) (baked-events (c .ticket) (c .grade))) (map (event given-up-kind) G) ≡ fed (day .tally) (close-events (day .board) places-held)
+  unfolding close-events closing-events given-up-events
+  all-fed h G q =
+      let t = day .tally in
+      let first = baked-events (c .ticket) (c .grade) in
+      rw q
+      (ap (fed (fed t first)) (map-map (event given-up-kind) (λ (r : Job). r .grade) (given-up (day .board)))
+      ∙ sym (fed-append t first (given-up-events (given-up (day .board))))
+      ∙ sym (rw (← e) (ap (fed t) (let-through (c .refusal) _ h))))
 
   pub close-given : {out : Bytes} {at mid end : ℕ} {out₁ out' : Bytes} (T G : List ℕ) (y : Tally)
       → sound (day .board) ≡ true → c .refusal ≡ 0 → at ≤ length out
       → T ≡ map (λ (r : Job). r .ticket) (given-up (day .board)) → G ≡ map (λ (r : Job). r .grade) (given-up (day .board))
       → LineAt (first-line (day .board) c) out at mid out₁
       → (end ≡ mid + length (printed-each (day .board .slot .0) T G)) × (end ≤ mid + length T * 96) × (out' ≡ put out₁ mid (printed-each (day .board .slot .0) T G))
-      → y ≡ count-grades 2 G (count-baked (c .ticket) (c .grade) (day .tally))
+      → y ≡ fed (fed (day .tally) (baked-events (c .ticket) (c .grade))) (map (event given-up-kind) G)
       → Given (answer-close (session-of day) (day .board) i) out at (said (c .board) y end) out'
   unfolding session-of GoodDay line-room
   close-given {out} {at} {mid} {end} {out₁} {out'} T G y s h room p q l m z =
@@ -57,7 +70,7 @@ module _ (day : Day) (i : ℕ) (c : Closed) (e : c ≡ closed (day .board) place
       given-as (close-answer h)
       (record {
         good = λ o. rw e (closed-sound (day .board) places-held s);
-        session = ap (open-session (c .board)) (z ∙ rw q (counted-jobs 2 A _));
+        session = ap (open-session (c .board)) (z ∙ all-fed h G q);
         end = omega (arith, l .0, m .0, ap length gone, length-append (first-line (day .board) c) (printed-gone k A));
         within = omega (arith, l .1, m .1, ap length p, length-map A (λ (r : Job). r .ticket), few-given-up (day .board) s);
         bytes = m .2 ∙ rw (gone, l .2, l .0) (put-append out at (first-line (day .board) c) (printed-gone k A) room);

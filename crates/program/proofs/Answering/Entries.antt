@@ -19,12 +19,13 @@ use Rattle.board.specs.Sound.{sound}
 use Rattle.board.specs.Close.{given-up-with, bakes, given-up, close-number, closed-with, closed}
 use Rattle.board.specs.Lent.{Lent, InOrder, LentInOrder}
 use Rattle.board.specs.Tally.{counted}
+use Rattle.board.specs.Events.{event, fed}
 use Rattle.board.proofs.Soundness.Apart.{facts}
 use Rattle.board.proofs.Soundness.HeldCount.{held-count}
 use Rattle.lines.specs.Bytes.{letter-G}
 use Rattle.lines.specs.Printing.{printed}
-use Rattle.lines.specs.Session.{printed-gone, count-each}
-use Rattle.program.specs.Days.{printed-each, count-grades}
+use Rattle.lines.specs.Session.{printed-gone}
+use Rattle.program.specs.Days.{printed-each}
 
 module _ (k : ℕ) (T G : List ℕ) (i : ℕ) where
   -- the line of the i-th ticket, and those behind it
@@ -39,23 +40,18 @@ module _ (k : ℕ) (T G : List ℕ) (i : ℕ) where
 
 module _ (k : ℕ) (G : List ℕ) (i : ℕ) (t : Tally) where
   -- the event of the i-th grade, and those behind it
-  pub next-event : i < length G → count-grades k (drop i G) t ≡ count-grades k (drop (i + 1) G) (counted t k (getD G i 0) .tally)
-  unfolding count-grades
+  pub next-event : i < length G → fed t (map (event k) (drop i G)) ≡ fed (counted t k (getD G i 0) .tally) (map (event k) (drop (i + 1) G))
+  unfolding fed
   next-event h = rw (drop-cons G i 0 h, add-one)
 
-  pub no-event : length G ≤ i → count-grades k (drop i G) t ≡ t
-  unfolding count-grades
+  pub no-event : length G ≤ i → fed t (map (event k) (drop i G)) ≡ t
+  unfolding fed
   no-event h = rw (drop-of-length-le G h)
 
 pub printed-jobs : (k : ℕ) (A : List Job) → printed-each k (map (λ (r : Job). r .ticket) A) (map (λ (r : Job). r .grade) A) ≡ printed-gone k A
 unfolding printed-each printed-gone
 printed-jobs k [] = refl
 printed-jobs k (r ∷ A) = ap (λ bs. printed letter-G (k ∷ r .ticket ∷ r .grade ∷ []) ++ bs) (printed-jobs k A)
-
-pub counted-jobs : (k : ℕ) (A : List Job) (t : Tally) → count-grades k (map (λ (r : Job). r .grade) A) t ≡ count-each k A t
-unfolding count-grades count-each
-counted-jobs k [] t = refl
-counted-jobs k (r ∷ A) t = counted-jobs k A (counted t k (r .grade) .tally)
 
 -- no more jobs than a board holds
 pub few-given-up : (b : Board) → sound b ≡ true → length (given-up b) ≤ 256

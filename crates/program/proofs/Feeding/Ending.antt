@@ -1,6 +1,6 @@
 -- Laws of the end of input: the last line, then the tally.
 use mathlib.Core.Bool.{Bool, true, false, cond}
-use mathlib.Core.List.{[], _∷_, _++_, append-nil}
+use mathlib.Core.List.{[], _++_, append-nil}
 use mathlib.Core.Option.{some, none}
 use mathlib.Core.Path.{_≡_, refl, sym, ap, _∙_}
 use Prim.Native.Nat.{ℕ, suc, _+_, _-_, _^_, _≤_, _<_}
@@ -11,10 +11,7 @@ use lib.Dec.{eqb}
 use lib.ListN.{length}
 use Rattle.lists.proofs.Tests.{cond-true, cond-false}
 use Rattle.board.specs.declared.Tally.{Tally}
-use Rattle.board.specs.Tally.{count-at}
-use Rattle.lines.specs.Bytes.{letter-T}
-use Rattle.lines.specs.Printing.{printed}
-use Rattle.lines.specs.Session.{Session, Answer, answer, at-end, printed-tally}
+use Rattle.lines.specs.Session.{Session, Answer, answer, at-end, tally-line, printed-tally}
 use Rattle.lines.specs.Machine.{Machine, printed-at-end}
 use Rattle.program.specs.declared.session.Day.{Day}
 use Rattle.program.specs.Days.{session-of}
@@ -59,7 +56,7 @@ module _ (m : Machine) where
 
 -- what is left of the tally, a line less
 pub tally-next : (n g : ℕ) (t : Tally) → g < n
-    → printed-tally (n - g) g t ≡ printed letter-T (g ∷ count-at t 0 g ∷ count-at t 1 g ∷ count-at t 2 g ∷ []) ++ printed-tally (n - (g + 1)) (g + 1) t
+    → printed-tally (n - g) g t ≡ tally-line g t ++ printed-tally (n - (g + 1)) (g + 1) t
 unfolding printed-tally
 tally-next n g t h =
     let e : n - g ≡ suc (n - (g + 1)) = omega arith in

@@ -6,10 +6,10 @@ use native.Mathlib.Nat.{sub-zero}
 use native.Mathlib.Omega.{arith}
 use borrow.Author.Needs.{needs}
 use lib.ListN.{length}
-use Rattle.board.specs.Tally.{count-at}
+use Rattle.board.specs.Events.{admitted-kind, baked-kind, given-up-kind}
 use Rattle.lines.specs.Bytes.{Bytes, letter-T}
 use Rattle.lines.specs.Printing.{printed}
-use Rattle.lines.specs.Session.{printed-tally}
+use Rattle.lines.specs.Session.{tally-line, printed-tally}
 use Rattle.printing.specs.Lines.{put}
 use Rattle.program.proofs.Answering.Pieces.{Left, all-left, fewer-left, none-left}
 use Rattle.program.proofs.Feeding.Ending.{tally-next, tally-done}
@@ -48,7 +48,7 @@ loop-less : tie.Need-loop-less Inv-loop μ-loop
 loop-less c = search needs
 
 loop-again : tie.Need-loop-again Inv-loop μ-loop
-unfolding letter-T
+unfolding letter-T tally-line admitted-kind baked-kind given-up-kind
 loop-again c =
     let p = c .before .before .say in
     let q = c .before .before .before .before in
@@ -58,7 +58,7 @@ loop-again c =
     let l = t .before .loop in
     let v = l .inv in
     let g = l .g in
-    let line = printed letter-T (g ∷ count-at (a .t) 0 g ∷ count-at (a .t) 1 g ∷ count-at (a .t) 2 g ∷ []) in
+    let line = tally-line g (a .t) in
     let said : printed 84 (g ∷ q .before .before .count-of .result ∷ q .before .count-of2 .result ∷ q .count-of3 .result ∷ []) ≡ line =
     rw (q .before .before .count-of .ensures, q .before .count-of2 .ensures, q .count-of3 .ensures)
     in

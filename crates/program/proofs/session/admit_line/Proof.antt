@@ -2,6 +2,7 @@
 use mathlib.Core.Path.{_≡_, _∙_}
 use borrow.Author.Needs.{needs}
 use Rattle.board.specs.Admit.{admitted}
+use Rattle.board.specs.Events.{admitted-kind}
 use Rattle.lines.specs.Bytes.{letter-A}
 use Rattle.calls.proofs.Admitting.OnSound.{admitting-on-sound}
 use Rattle.program.specs.Days.{GoodDay, line-room}
@@ -44,7 +45,7 @@ same-length-2 : tie.Need-same-length-2
 same-length-2 c = search needs
 
 returns-2 : tie.Need-returns-2
-unfolding letter-A GoodDay
+unfolding letter-A GoodDay admitted-kind
 returns-2 c =
     let s = c .before .before .before .before .before in
     let e = s .before .before .before in

@@ -1,6 +1,7 @@
 -- `program::session::close_line`: refused, or the next board, its lines and its events. Assumes nothing.
 use mathlib.Core.Path.{_≡_, sym, ap, _∙_}
 use mathlib.Core.Bool.{true}
+use mathlib.Core.List.{map}
 use native.Mathlib.Omega.{arith}
 use borrow.Author.Needs.{needs}
 use lib.ListN.{take}
@@ -9,9 +10,11 @@ use Rattle.board.specs.Limits.{places-held}
 use Rattle.board.specs.Sound.{sound}
 use Rattle.board.specs.Close.{closed}
 use Rattle.board.specs.Lent.{entries}
+use Rattle.board.specs.declared.Tally.{Tally}
+use Rattle.board.specs.Events.{given-up-kind, event, fed}
 use Rattle.lines.specs.Bytes.{letter-B}
 use Rattle.calls.proofs.Closing.OnSound.{meets-on-sound}
-use Rattle.program.specs.Days.{GoodDay, line-room, count-grades}
+use Rattle.program.specs.Days.{GoodDay, line-room}
 use Rattle.program.proofs.Answering.Answers.{given-as}
 use Rattle.program.proofs.Answering.Entries.{Entered, entered}
 use Rattle.program.proofs.Answering.Closings.{close-refused, close-given}
@@ -139,7 +142,7 @@ returns-2 c =
     close-given _ _ (k .close-in-limits .result) (closed-full k) _ _ _ (board-sound s) (going d .if1 .left) (omega (arith, s .pre .1 .1)) (n .tickets) (n .grades)
     (d .before .before .say .ensures)
     (g .say-gone .ensures)
-    (c .before .count-gone .ensures ∙ ap (count-grades 2 grades) (y .count-baked .ensures))
+    (c .before .count-gone .ensures ∙ ap (λ (t : Tally). fed t (map (event given-up-kind) grades)) (y .count-baked .ensures))
 
 pub close-line-spec : {M : Type 1} → statement M
 close-line-spec =

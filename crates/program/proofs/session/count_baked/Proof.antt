@@ -1,22 +1,22 @@
 -- `program::session::count_baked`: ticket 0 is no event. Assumes nothing.
 use borrow.Author.Needs.{needs}
-use mathlib.Core.Path.{sym, _∙_}
+use mathlib.Core.Path.{sym, ap, _∙_}
 use borrow.Author.Tests.{eq-eqb, ne-eqb}
 use Rattle.lists.proofs.Tests.{cond-true, cond-false}
-use Rattle.lines.specs.Session.{count-baked}
+use Rattle.board.specs.Events.{baked-kind, baked-events, fed}
 use Rattle.program.proofs.session.count_baked.Statement.{statement}
 use Rattle.program.proofs.session.count_baked.Tie as tie
 
 returns : tie.Need-returns
-unfolding count-baked
-returns c = sym (cond-true _ _ _ (eq-eqb _ 0 (c .if1 .taken)))
+unfolding baked-events fed
+returns c = sym (ap (fed _) (cond-true _ _ _ (eq-eqb _ 0 (c .if1 .taken))))
 
 count-requires : tie.Need-count-requires
 count-requires c κs = search needs
 
 returns-2 : tie.Need-returns-2
-unfolding count-baked
-returns-2 c = c .count .ensures ∙ sym (cond-false _ _ _ (ne-eqb _ 0 (c .before .if1 .left)))
+unfolding baked-kind baked-events fed
+returns-2 c = c .count .ensures ∙ sym (ap (fed _) (cond-false _ _ _ (ne-eqb _ 0 (c .before .if1 .left))))
 
 pub count-baked-spec : {M : Type 1} → statement M
 count-baked-spec = tie.close (tie.spec returns count-requires returns-2)

@@ -1,17 +1,19 @@
 -- `program::session::count_gone`: the events that are left come after those counted. Assumes nothing.
 use mathlib.Core.Path.{_≡_, refl, sym, ap, _∙_}
+use mathlib.Core.List.{map}
 use Prim.Native.Nat.{_+_, _-_, _≤_}
 use native.Mathlib.Omega.{arith}
 use borrow.Author.Needs.{needs}
 use lib.ListN.{length, drop}
-use Rattle.program.specs.Days.{count-grades}
+use Rattle.board.specs.declared.Tally.{Tally}
+use Rattle.board.specs.Events.{given-up-kind, event, fed}
 use Rattle.program.proofs.Answering.Entries.{next-event, no-event}
 use Rattle.program.proofs.session.count_gone.Statement.{statement}
 use Rattle.program.proofs.session.count_gone.Tie as tie
 
 abbrev Inv-loop : tie.InvT-loop
 Inv-loop grades tally₀ i₀ tally i =
-    (i ≤ length grades) × (count-grades 2 (drop i grades) tally ≡ count-grades 2 grades tally₀)
+    (i ≤ length grades) × (fed tally (map (event given-up-kind) (drop i grades)) ≡ fed tally₀ (map (event given-up-kind) grades))
 
 abbrev μ-loop : tie.MeasureT-loop
 μ-loop grades tally₀ i₀ tally i = length grades - i
@@ -35,13 +37,14 @@ loop-less : tie.Need-loop-less Inv-loop μ-loop
 loop-less c = search needs
 
 loop-again : tie.Need-loop-again Inv-loop μ-loop
+unfolding given-up-kind
 loop-again c =
     let l = c .before .before .before in
     let rest = drop (l .loop .i + 1) (l .before .before .args .grades .now) in
-    (omega arith, ap (count-grades 2 rest) (c .count .ensures) ∙ sym (next-event 2 _ _ _ (c .before .before .loop-test .taken)) ∙ l .loop .inv .1)
+    (omega arith, ap (λ (t : Tally). fed t (map (event given-up-kind) rest)) (c .count .ensures) ∙ sym (next-event given-up-kind _ _ _ (c .before .before .loop-test .taken)) ∙ l .loop .inv .1)
 
 returns : tie.Need-returns Inv-loop μ-loop
-returns c = sym (no-event 2 _ _ _ (c .loop-test .left)) ∙ c .before .loop .inv .1
+returns c = sym (no-event given-up-kind _ _ _ (c .loop-test .left)) ∙ c .before .loop .inv .1
 
 pub count-gone-spec : {M : Type 1} → statement M
 count-gone-spec =

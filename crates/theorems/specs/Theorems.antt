@@ -2,6 +2,7 @@
 use mathlib.Core.Path.{_≡_}
 use mathlib.Core.Bool.{true}
 use Prim.Native.Nat.{ℕ, _<_}
+use Rattle.rule.specs.Worked.{Worked}
 use Rattle.books.specs.Rule.{Rule}
 use Rattle.books.specs.Rival.{Setting, Rival, Level}
 use Rattle.books.specs.NoRegretRule.{Busy, Characterised}
@@ -10,9 +11,12 @@ use Rattle.board.specs.declared.Board.{Board}
 use Rattle.board.specs.Limits.{most-in-slot, places-held}
 use Rattle.board.specs.Held.{in-slot}
 use Rattle.board.specs.Sound.{sound}
+use Rattle.board.specs.Open.{opened}
 use Rattle.claims.specs.Calls.{Call, board-after}
 use Rattle.claims.specs.Demand3.{Demand3}
 use Rattle.claims.specs.Balance.{Balance}
+use Rattle.lines.specs.Machine.{ByteByByte}
+use Rattle.lines.specs.NeverMet.{NeverMet}
 
 pub record Theorems : Type 0 where
   -- for every list of calls: no plan bakes more, and no rival does better by grade
@@ -26,7 +30,15 @@ pub record Theorems : Type 0 where
   -- always the least last slot has level 0 and, at depth 1, not level 1
   pub least-last-level0 : (S : Setting) → Level S 0 least-last-rule
   pub least-last-not-level1 : ¬ Level (paper-setting 1) 1 least-last-rule
+  -- boards 1 to 8: the definitions say what 01 worked out by hand
+  pub worked : Worked
+  -- opening returns a sound board with no jobs, for every depth that it lets through
+  pub opening : (d : ℕ) → opened d .refusal ≡ 0 → (sound (opened d .board) ≡ true) × (opened d .board .count ≡ 0)
   -- every call keeps a sound board sound
   pub sound-kept : (b : Board) (c : Call) → sound b ≡ true → sound (board-after b c) ≡ true
   -- a sound board with fewer than eight jobs of its slot has a free place
   pub free-place : (b : Board) → sound b ≡ true → in-slot b < most-in-slot → b .count < places-held
+  -- the program prints the whole output byte by byte, as it reads
+  pub byte-by-byte : ByteByByte
+  -- the program never meets 2, 8, 9 or 10
+  pub never-met : NeverMet
