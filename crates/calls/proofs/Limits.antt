@@ -1,16 +1,15 @@
 -- What the limits of a board tell, and that a sound board is in them.
 use mathlib.Core.Path.{_≡_}
-use mathlib.Core.Bool.{true, not, _&&_}
+use mathlib.Core.Bool.{true, not}
 use Prim.Native.Nat.{ℕ, suc, _≤_}
 use Rattle.board.specs.declared.Board.{Board}
 use Rattle.board.specs.Limits.{places-held, last-slot, deepest}
 use Rattle.board.specs.Rows.{_if_, first-given}
 use Rattle.board.specs.Sound.{sound}
-use Rattle.lists.proofs.Tests.{and-left, and-right, and-intro}
-use lib.Dec.{leb}
+use Rattle.lists.proofs.Joined.{apart, together}
 use borrow.Author.Tests.{leb-true, le-leb}
 use Rattle.board.proofs.Soundness.Apart.{facts}
-use Rattle.soundness.specs.Walk.{in-limits}
+use Rattle.soundness.specs.Walk.{limit-tests, in-limits}
 use Rattle.calls.specs.InLimits.{limits-number}
 
 pub record Within (b : Board) : Type 0 where
@@ -19,25 +18,23 @@ pub record Within (b : Board) : Type 0 where
   pub counted : b .count ≤ places-held
 
 pub within : (b : Board) → in-limits (b .depth) (b .slot .0) (b .count) ≡ true → Within b
-unfolding in-limits
+unfolding in-limits limit-tests
 within b h =
-    let d = leb (b .depth) deepest in
-    let f = leb 1 (b .slot .0) in
-    let l = leb (b .slot .0) (suc last-slot) in
-    let slots = and-left (d && f && l) _ h in
+    let p = apart (λ t. t) (limit-tests (b .depth) (b .slot .0) (b .count)) h in
     record {
-      shallow = leb-true (b .depth) deepest (and-left d f (and-left (d && f) l slots));
-      in-book = leb-true (b .slot .0) (suc last-slot) (and-right (d && f) l slots);
-      counted = leb-true (b .count) places-held (and-right (d && f && l) _ h);
+      shallow = leb-true (b .depth) deepest (p .0);
+      in-book = leb-true (b .slot .0) (suc last-slot) (p .1 .1 .0);
+      counted = leb-true (b .count) places-held (p .1 .1 .1 .0);
     }
 
 pub sound-in-limits : (b : Board) → sound b ≡ true → in-limits (b .depth) (b .slot .0) (b .count) ≡ true
-unfolding in-limits
+unfolding in-limits limit-tests
 sound-in-limits b s =
     let f = facts b s in
-    and-intro _ _
-    (and-intro _ _ (and-intro _ _ (le-leb (b .depth) deepest (f .shallow)) (le-leb 1 (b .slot .0) (f .from-first))) (le-leb (b .slot .0) (suc last-slot) (f .to-last)))
-    (le-leb (b .count) places-held (f .counted))
+    together (λ t. t) (limit-tests (b .depth) (b .slot .0) (b .count)) (
+      le-leb (b .depth) deepest (f .shallow),
+      (le-leb 1 (b .slot .0) (f .from-first), (le-leb (b .slot .0) (suc last-slot) (f .to-last), (le-leb (b .count) places-held (f .counted), tt))),
+    )
 
 pub limits-passed : (b : Board) → in-limits (b .depth) (b .slot .0) (b .count) ≡ true → limits-number b ≡ 0
 unfolding limits-number first-given _if_

@@ -1,4 +1,3 @@
-pub mod Known
 pub mod Steps
 pub mod Sharing
 pub mod Walk

@@ -1,7 +1,7 @@
 // Whether a board is sound: its limits, then one walk along its jobs and one along the places past them. Tests are joined
 // by `&` and not by `&&`: this runs at every public call, and the walks then have no branch to guess.
 ghost use mathlib.Core.Path.{_≡_};
-ghost use Prim.Native.Nat.{_≤_, _^_};
+ghost use Prim.Native.Nat.{_≤_};
 ghost use Rattle.board.specs.Limits.{places-held, deepest};
 ghost use Rattle.board.specs.Held.{used};
 ghost use Rattle.board.specs.Sound.{is-blank, blank-past-count, sound};
@@ -29,14 +29,6 @@ pub fn in_limits(depth: u8, slot: Slot, count: usize) -> bool
         & (count <= Board::PLACES)
 }
 
-// The number of grades of a depth.
-fn grades_of(depth: u8) -> u8
-    requires { ⌜ depth ≤ deepest ⌝ }
-    ensures { λ r. ⌜ r ≡ 2 ^ depth ⌝ }
-{
-    1u8 << depth
-}
-
 // From the admitted slot to the last a job has no more slots than the longest laxity. In 64 bits the sum cannot wrap.
 fn is_short(x: Place) -> bool
     ensures { λ r. ⌜ r ≡ is-short x ⌝ }
@@ -57,7 +49,7 @@ fn sharing_with(s: Seen, x: Place) -> usize
 }
 
 // The next job is looked at.
-fn seen_with(slot: Slot, grades: u8, s: Seen, x: Place) -> Seen
+fn seen_with(slot: Slot, grades: u32, s: Seen, x: Place) -> Seen
     requires { ⌜ s .sharing ≤ places-held ⌝ }
     ensures { λ r. ⌜ r ≡ seen-with (slot .0) grades s x ⌝ }
 {
@@ -70,7 +62,7 @@ fn seen_with(slot: Slot, grades: u8, s: Seen, x: Place) -> Seen
         & (x.admitted.0 <= slot.0)
         & (slot.0 <= x.last.0)
         & is_short(x)
-        & (x.grade < grades);
+        & ((x.grade as u32) < grades);
     Seen {
         well,
         ticket: x.ticket,
@@ -86,7 +78,7 @@ fn jobs_sound(b: Board) -> bool
 {
     let n = b.count;
     let slot = b.slot;
-    let grades = grades_of(b.depth);
+    let grades = Board::grades(b.depth);
     let mut s = Seen {
         well: true,
         ticket: 0,

@@ -9,7 +9,7 @@ use Rattle.lists.specs.Select.{every}
 use Rattle.board.specs.Limits.{places-held}
 use Rattle.board.specs.Held.{blank}
 use Rattle.board.specs.Sound.{is-blank, blank-past-count}
-use Rattle.soundness.proofs.Known.{all-places}
+use Rattle.board.proofs.Known.{all-places}
 use Rattle.soundness.proofs.Steps.{every-step, every-done}
 use Rattle.soundness.proofs.blank_past.Statement.{statement}
 use Rattle.soundness.proofs.blank_past.Tie as tie

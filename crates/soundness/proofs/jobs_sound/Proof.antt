@@ -9,7 +9,8 @@ use Rattle.board.specs.Limits.{places-held}
 use Rattle.board.specs.Held.{blank, used}
 use Rattle.soundness.specs.declared.Seen.{Seen}
 use Rattle.soundness.specs.Walk.{seen-with, nothing-seen, all-well}
-use Rattle.soundness.proofs.Known.{all-places}
+use Rattle.board.proofs.Known.{all-places}
+use Rattle.board.proofs.Grades.{grades-of}
 use Rattle.soundness.proofs.Sharing.{sharing-most}
 use Rattle.soundness.proofs.Steps.{walk-step, walk-done}
 use Rattle.soundness.proofs.jobs_sound.Statement.{statement}
@@ -22,8 +23,8 @@ Inv-loop b n slot grades s₀ i₀ s i =
 abbrev μ-loop : tie.MeasureT-loop
 μ-loop b n slot grades s₀ i₀ s i = b .count - i
 
-grades-of-requires : tie.Need-grades-of-requires Inv-loop μ-loop
-grades-of-requires c κs = search needs
+grades-requires : tie.Need-grades-requires Inv-loop μ-loop
+grades-requires c κs = search needs
 
 loop-holds : tie.Need-loop-holds Inv-loop μ-loop
 unfolding nothing-seen used
@@ -58,7 +59,7 @@ loop-again c =
     let seen = c .seen-with .ensures in (
       omega arith,
       omega (arith, ap (λ (r : Seen). r .sharing) seen, sharing-most (l .loop .s) (getD (b .places) (l .loop .i) blank)),
-      walk-step b (l .loop .s) (c .seen-with .result) (g .grades-of .result) (l .loop .i) (g .grades-of .ensures) (omega arith) (omega arith) seen
+      walk-step b (l .loop .s) (c .seen-with .result) (g .grades .result) (l .loop .i) (g .grades .ensures ∙ grades-of _ (g .before .before .pre .0)) (omega arith) (omega arith) seen
           ∙ l .loop .inv .2,
     )
 
@@ -74,7 +75,7 @@ jobs-sound-spec =
     (tie.spec
     Inv-loop
     μ-loop
-    grades-of-requires
+    grades-requires
     loop-holds
     mul-x
     element-copy-out-x

@@ -12,9 +12,12 @@ sharing-with-requires c κs = search needs
 is-short-requires : tie.Need-is-short-requires
 is-short-requires c κs = search needs
 
+cast-well : tie.Need-cast-well
+cast-well c = search needs
+
 returns : tie.Need-returns
 unfolding seen-with well-with next-tests most-in-slot
 returns c = rw (← joined-every (λ t. t)) (cc)
 
 pub seen-with-spec : {M : Type 1} → statement M
-seen-with-spec = tie.close (tie.spec sharing-with-requires is-short-requires returns)
+seen-with-spec = tie.close (tie.spec sharing-with-requires is-short-requires cast-well returns)
