@@ -2,12 +2,12 @@
 ghost use mathlib.Core.Path.{_≡_};
 ghost use mathlib.Core.Bool.{true};
 ghost use Prim.Native.Nat.{_+_, _*_, _≤_};
-ghost use lib.ListN.{length, take};
+ghost use lib.ListN.{length};
 ghost use Rattle.board.specs.Tally.{counted};
 ghost use Rattle.lines.specs.Printing.{printed};
 ghost use Rattle.lines.specs.Session.{refused, count-baked, answer-open, answer-admit, answer-close};
-ghost use Rattle.printing.specs.Lines.{put};
-ghost use Rattle.calls.specs.Days.{session-of, GoodDay, line-room, Given, Answered, printed-each, count-grades};
+ghost use Rattle.printing.specs.Lines.{line-numbers, room};
+ghost use Rattle.calls.specs.Days.{session-of, GoodDay, line-room, Given, PutWithin, Answered, printed-each, count-grades};
 use crate::admit;
 use crate::close;
 use board::Board;
@@ -29,11 +29,11 @@ pub struct Said {
 }
 
 // Prints a line at `at`; where it ends.
-pub(crate) fn say(out: &mut [u8], at: usize, letter: u8, numbers: [u64; 4], count: usize) -> usize
-    requires { ⌜ at + 96 ≤ length (now out) ⌝ }
-    ensures { λ r. ⌜ (r ≡ at + length (printed letter (take count numbers))) × (r ≤ at + 96) × (now (out .exit) ≡ put (now (out .entry)) at (printed letter (take count numbers))) ⌝ }
+pub(crate) fn say(out: &mut [u8], at: usize, letter: u8, numbers: &[u64]) -> usize
+    requires { ⌜ (length (now numbers) ≤ line-numbers) × (at + room ≤ length (now out)) ⌝ }
+    ensures { λ r. ⌜ PutWithin room (printed letter (now (numbers .entry))) (now (out .entry)) at r (now (out .exit)) ⌝ }
 {
-    let l = printing::print_line(letter, numbers, count);
+    let l = printing::print_line(letter, numbers);
     printing::put_line(out, at, l)
 }
 
@@ -51,7 +51,7 @@ fn refuse(day: Day, line: u64, number: u8, out: &mut [u8], at: usize) -> Said
     requires { ⌜ at + line-room ≤ length (now out) ⌝ }
     ensures { λ r. ⌜ Given (refused (session-of day) line number) (now (out .entry)) at r (now (out .exit)) ⌝ }
 {
-    let end = say(out, at, b'R', [line, number as u64, 0, 0], 2);
+    let end = say(out, at, b'R', &[line, number as u64]);
     Said { day, at: end }
 }
 
@@ -65,7 +65,7 @@ fn open_line(day: Day, line: u64, depth: u32, out: &mut [u8], at: usize) -> Said
     if o.refusal != 0 {
         return refuse(day, line, o.refusal, out, at);
     }
-    let end = say(out, at, b'D', [depth as u64, 0, 0, 0], 1);
+    let end = say(out, at, b'D', &[depth as u64]);
     let board = o.board;
     let tally = day.tally;
     let next = Day {
@@ -96,7 +96,7 @@ fn admit_line(
     if a.refusal != 0 {
         return refuse(day, line, a.refusal, out, at);
     }
-    let end = say(out, at, b'A', [ticket as u64, a.last.0 as u64, 0, 0], 2);
+    let end = say(out, at, b'A', &[ticket as u64, a.last.0 as u64]);
     let board = a.board;
     let old = day.tally;
     let tally = count(old, 0, grade);
@@ -111,8 +111,8 @@ fn admit_line(
 // Prints a line for each job given up; where the last one ends.
 fn say_gone(slot: u32, tickets: &[u32], grades: &[u8], out: &mut [u8], at: usize) -> usize
     requires { ⌜ length (now grades) ≡ length (now tickets) ⌝ }
-    requires { ⌜ at + length (now tickets) * 96 ≤ length (now out) ⌝ }
-    ensures { λ r. ⌜ (r ≡ at + length (printed-each slot (now (tickets .entry)) (now (grades .entry)))) × (r ≤ at + length (now (tickets .entry)) * 96) × (now (out .exit) ≡ put (now (out .entry)) at (printed-each slot (now (tickets .entry)) (now (grades .entry)))) ⌝ }
+    requires { ⌜ at + length (now tickets) * room ≤ length (now out) ⌝ }
+    ensures { λ r. ⌜ PutWithin (length (now (tickets .entry)) * room) (printed-each slot (now (tickets .entry)) (now (grades .entry))) (now (out .entry)) at r (now (out .exit)) ⌝ }
 {
     let mut end = at;
     let mut i: usize = 0;
@@ -121,8 +121,7 @@ fn say_gone(slot: u32, tickets: &[u32], grades: &[u8], out: &mut [u8], at: usize
             out,
             end,
             b'G',
-            [slot as u64, tickets[i] as u64, grades[i] as u64, 0],
-            3,
+            &[slot as u64, tickets[i] as u64, grades[i] as u64],
         );
         i += 1;
     }
@@ -172,13 +171,12 @@ fn close_line(day: Day, line: u64, out: &mut [u8], at: usize) -> Said
         out,
         at,
         b'B',
-        [
+        &[
             b.slot.0 as u64,
             c.ticket as u64,
             c.grade as u64,
             c.expired as u64,
         ],
-        4,
     );
     let end = say_gone(b.slot.0, &tickets[..n], &grades[..n], out, mid);
     let old = day.tally;

@@ -12,7 +12,7 @@ use Rattle.board.specs.Held.{held}
 use Rattle.board.specs.Sound.{sound}
 use Rattle.board.specs.Admit.{admitted}
 use Rattle.board.specs.Close.{closed, given-up}
-use Rattle.board.specs.Tally.{zero-tally, counted, count-at}
+use Rattle.board.specs.Tally.{tally-grades, zero-tally, counted, count-at}
 use Rattle.claims.specs.Calls.{Call, admit, close, board-after}
 
 -- 'one event at a time: kind 0 admitted, 1 baked, 2 given up, with a grade'
@@ -55,7 +55,7 @@ on-board g b = how-many (λ (r : Job). eqb (r .grade) g) (held b)
 -- 'From a zero tally fed every event of an empty board's run, admitted = baked + given up + racks on the board, for each grade.'
 pub record Balanced (b : Board) (cs : List Call) : Type 0 where
   pub taken : AllTaken zero-tally (noted-all b cs)
-  pub balance : (g : ℕ) → g < 8
+  pub balance : (g : ℕ) → g < tally-grades
       → count-at (fed zero-tally (noted-all b cs)) 0 g
       ≡ count-at (fed zero-tally (noted-all b cs)) 1 g + count-at (fed zero-tally (noted-all b cs)) 2 g + on-board g (board-after-all b cs)
 

@@ -58,8 +58,8 @@ counted-jobs k [] t = refl
 counted-jobs k (r ∷ A) t = counted-jobs k A (counted t k (r .grade) .tally)
 
 -- no more jobs than a board holds
-pub few-given-up : (b : Board) → sound b ≡ true → length (given-up b) ≤ 256
-unfolding given-up places-held
+pub few-given-up : (b : Board) → sound b ≡ true → length (given-up b) ≤ places-held
+unfolding given-up
 few-given-up b s =
     let f = facts b s in
     let p = expires (b .slot .0) (bakes b) in
@@ -80,7 +80,7 @@ begins f A rest l n h e =
 
 -- the jobs given up are the first n entries of the lists
 pub record Entered (b : Board) (n : ℕ) (T G : List ℕ) : Type 0 where
-  pub few : n ≤ 256
+  pub few : n ≤ places-held
   pub in-tickets : n ≤ length T
   pub in-grades : n ≤ length G
   pub tickets : take n T ≡ map (λ (r : Job). r .ticket) (given-up b)

@@ -2,7 +2,7 @@
 use mathlib.Core.Path.{_≡_, refl, sym, ap, _∙_, subst}
 use mathlib.Core.Bool.{true, cond}
 use mathlib.Core.List.{[], _∷_, _++_, List·Memᴰ·eq-of-singleton}
-use Prim.Native.Nat.{ℕ, zero, suc, _+_, _^_, _≤_, _<_}
+use Prim.Native.Nat.{ℕ, zero, suc, _+_, _≤_}
 use native.Mathlib.Omega.{arith}
 use lib.Dec.{eqb}
 use borrow.Author.Tests.{eq-eqb, ne-eqb}
@@ -10,29 +10,21 @@ use Rattle.lists.specs.Select.{one-if, how-many}
 use Rattle.lists.proofs.Counting.{one-if-yes, one-if-most, count-append}
 use Rattle.rule.specs.Job.{Job, job}
 use Rattle.board.specs.declared.Board.{Board}
-use Rattle.board.specs.Limits.{most-in-slot, last-slot, deepest}
+use Rattle.board.specs.Limits.{most-in-slot, last-slot}
 use Rattle.board.specs.Held.{held, in-slot}
 use Rattle.board.specs.Sound.{sound}
 use Rattle.board.specs.Admit.{admit-number, with-job, admitted-if, admitted}
+use Rattle.board.specs.Tally.{tally-kinds}
 use Rattle.board.proofs.Soundness.Facts.{SoundFacts, admitted-in}
 use Rattle.board.proofs.Soundness.Apart.{facts}
 use Rattle.board.proofs.Soundness.FreePlace.{room}
-use Rattle.board.proofs.Tallies.CountAt.{Cell}
+use Rattle.board.proofs.Tallies.CountAt.{Cell, grades-counted}
 use Rattle.board.proofs.Calls.Rows.{Admits, admits}
 use Rattle.board.proofs.Calls.HeldAfter.{held-with-job}
 use Rattle.board.proofs.Calls.SoundAfter.{admit-number-sound, with-job-sound}
 use Rattle.claims.specs.Calls.{admit, board-after}
 use Rattle.claims.specs.Balance.{Noted, noted, on-board}
 use Rattle.claims.proofs.Tallying.RunFacts.{still, Leads, leads-nowhere}
-
--- a grade of a sound board has a count
-pub eight-grades : (d g : ℕ) → d ≤ deepest → g < 2 ^ d → g ≤ 7
-unfolding deepest
-eight-grades zero g h k = omega arith
-eight-grades (suc zero) g h k = omega arith
-eight-grades (suc (suc zero)) g h k = omega arith
-eight-grades (suc (suc (suc zero))) g h k = omega arith
-eight-grades (suc (suc (suc (suc d)))) g h k = omega arith
 
 module _ (b : Board) (t w g : ℕ) (s : sound b ≡ true) (e : admit-number b t w g ≡ 0) where
   rows : Admits (b .slot .0) (b .highest) (in-slot b) (b .depth) t w g
@@ -68,12 +60,12 @@ module _ (b : Board) (t w g : ℕ) (s : sound b ≡ true) (e : admit-number b t 
   less = omega (arith, one-more-now, rows .room, rows .going, known .to-last)
 
   taken : Leads b (record { kind = 0; grade = g } ∷ []) (with-job b t w g)
-  unfolding how-many one-if
+  unfolding how-many one-if tally-kinds
   taken =
       record {
         is-sound = with-job-sound b t w g s e;
         cells = λ x m.
-            let r : Cell 0 g = record { kind = omega arith; grade = eight-grades (b .depth) g (known .shallow) (rows .graded) } in
+            let r : Cell 0 g = record { kind = omega arith; grade = omega (arith, rows .graded, grades-counted (known .shallow)) } in
             subst (λ (y : Noted). Cell (y .kind) (y .grade)) (sym (List·Memᴰ·eq-of-singleton m)) r;
         balance = λ n. omega (arith, one-more n);
         intake = λ n. omega (arith, less, one-if-most (eqb g n));

@@ -4,7 +4,7 @@ use mathlib.Core.Bool.{true, false, cond, _&&_}
 use mathlib.Core.Logic.{_⊎_, inl, inr}
 use mathlib.Core.List.{List, [], _∷_, _++_, map, List·Memᴰ, List·Memᴰ·append-cases, List·Memᴰ·not-nil, List·Memᴰ·eq-of-singleton, Memᴰ·of-map}
 use mathlib.Core.Option.{Option, none, some}
-use Prim.Native.Nat.{ℕ, zero, suc, _+_, _≤_}
+use Prim.Native.Nat.{ℕ, zero, suc, _+_, _≤_, _<_}
 use native.Mathlib.Omega.{arith}
 use lib.Dec.{eqb}
 use borrow.Author.Tests.{ne-eqb}
@@ -18,17 +18,17 @@ use Rattle.board.specs.Limits.{most-in-slot, last-slot}
 use Rattle.board.specs.Held.{held, in-slot}
 use Rattle.board.specs.Sound.{sound}
 use Rattle.board.specs.Close.{close-number, bakes, given-up, moved-on, closed-if, closed}
+use Rattle.board.specs.Tally.{tally-kinds, tally-grades}
 use Rattle.lists.proofs.Spread.{sharing}
 use Rattle.board.proofs.Soundness.Facts.{SoundFacts}
 use Rattle.board.proofs.Soundness.Apart.{facts}
-use Rattle.board.proofs.Tallies.CountAt.{Cell}
+use Rattle.board.proofs.Tallies.CountAt.{Cell, grades-counted}
 use Rattle.board.proofs.Calls.Rows.{closes}
 use Rattle.board.proofs.Calls.SoundAfter.{close-number-sound, moved-on-sound}
 use Rattle.claims.specs.Calls.{close, board-after}
 use Rattle.claims.specs.Balance.{Noted, noted, on-board}
 use Rattle.claims.proofs.Tallying.FedCounts.{times}
 use Rattle.claims.proofs.Tallying.RunFacts.{still, Leads, leads-nowhere}
-use Rattle.claims.proofs.Tallying.AdmitFacts.{eight-grades}
 use Rattle.claims.proofs.Tallying.Fates.{baked-held, ticket-above, none-baked, one-baked, fates}
 
 -- the event of the job baked, and those of the jobs given up
@@ -47,8 +47,8 @@ module _ (b : Board) (s : sound b ≡ true) where
   known : SoundFacts b
   known = facts b s
 
-  fits : (q : Job) → List·Memᴰ q (held b) → q .grade ≤ 7
-  fits q m = eight-grades (b .depth) (q .grade) (known .shallow) (known .each q m .graded)
+  fits : (q : Job) → List·Memᴰ q (held b) → q .grade < tally-grades
+  fits q m = omega (arith, known .each q m .graded, grades-counted (known .shallow))
 
   -- a job that is baked has a ticket
   baked-events : (o : Option Job) → bakes b ≡ o → baked-noted (ticket-of o) (grade-of o) ≡ events-of o
@@ -93,10 +93,10 @@ module _ (b : Board) (s : sound b ≡ true) where
       omega (arith, known .to-last, sharing (λ (r : Job). r .admitted) (held b) most-in-slot (known .intake) (b .slot .0))
 
   cells : (e : Noted) → List·Memᴰ e events → Cell (e .kind) (e .grade)
-  unfolding events events-of given-up
+  unfolding events events-of given-up tally-kinds
   cells e m = go (List·Memᴰ·append-cases (events-of (bakes b)) m)
     where
-      of-job : (k : ℕ) (r : Job) → k ≤ 2 → List·Memᴰ r (held b) → e ≡ record { kind = k; grade = r .grade } → Cell (e .kind) (e .grade)
+      of-job : (k : ℕ) (r : Job) → k < tally-kinds → List·Memᴰ r (held b) → e ≡ record { kind = k; grade = r .grade } → Cell (e .kind) (e .grade)
       of-job k r h i q = record { kind = omega (arith, ap (λ (x : Noted). x .kind) q); grade = omega (arith, ap (λ (x : Noted). x .grade) q, fits r i) }
 
       from : (o : Option Job) → bakes b ≡ o → List·Memᴰ e (events-of o) → Cell (e .kind) (e .grade)

@@ -2,16 +2,15 @@
 use mathlib.Core.Path.{_≡_, ap}
 use mathlib.Core.Bool.{true}
 use mathlib.Core.List.{List, [], _∷_}
-use Prim.Native.Nat.{ℕ, zero, suc, _≤_}
+use Prim.Native.Nat.{ℕ, zero, suc, _*_, _≤_, _<_}
 use native.Mathlib.Omega.{arith}
 use lib.Dec.{eqb}
 use lib.ListN.{length-replicate}
 use Rattle.lists.specs.Select.{how-many}
 use Rattle.rule.specs.Job.{Job}
 use Rattle.board.specs.declared.Board.{Board}
-use Rattle.board.specs.Limits.{most-in-slot, last-slot}
 use Rattle.board.specs.Sound.{sound}
-use Rattle.board.specs.Tally.{zero-tally}
+use Rattle.board.specs.Tally.{tally-kinds, tally-grades, tally-most, zero-tally}
 use Rattle.board.proofs.Soundness.Facts.{SoundFacts}
 use Rattle.board.proofs.Soundness.HeldCount.{no-jobs}
 use Rattle.board.proofs.Soundness.Apart.{facts}
@@ -34,9 +33,9 @@ run-leads b (c ∷ cs) s =
     let first = call-leads b c s in
     leads-on b (noted b c) (board-after b c) (noted-all (board-after b c) cs) (board-after-all (board-after b c) cs) first (run-leads (board-after b c) cs (first .is-sound))
 
--- no more than 8,000,000 jobs can be admitted in a run
-at-most : (b : Board) → SoundFacts b → still b ≤ 8_000_000
-unfolding still most-in-slot last-slot
+-- no more jobs than a count may have can be admitted in a run
+at-most : (b : Board) → SoundFacts b → still b ≤ tally-most
+unfolding still tally-most
 at-most b f = omega (arith, f .from-first)
 
 module _ (b : Board) (s : sound b ≡ true) (empty : b .count ≡ 0) (cs : List Call) where
@@ -47,7 +46,8 @@ module _ (b : Board) (s : sound b ≡ true) (empty : b .count ≡ 0) (cs : List 
   unfolding on-board how-many
   no-grade g = ap (how-many (λ (r : Job). eqb (r .grade) g)) (no-jobs b empty)
 
-  below : (k g : ℕ) → Cell k g → times k g (noted-all b cs) ≤ 8_000_000
+  below : (k g : ℕ) → Cell k g → times k g (noted-all b cs) ≤ tally-most
+  unfolding tally-kinds
   below zero g c = omega (arith, run .intake g, at-most b (facts b s))
   below (suc zero) g c = omega (arith, run .intake g, run .balance g, no-grade g, at-most b (facts b s))
   below (suc (suc zero)) g c = omega (arith, run .intake g, run .balance g, no-grade g, at-most b (facts b s))
@@ -55,14 +55,15 @@ module _ (b : Board) (s : sound b ≡ true) (empty : b .count ≡ 0) (cs : List 
 
   fed-run : FedFacts zero-tally (noted-all b cs)
   unfolding zero-tally
-  fed-run = fed-facts zero-tally (noted-all b cs) (length-replicate {A = ℕ} 24 0) (run .cells) (λ k g c. omega (arith, below k g c, zero-count k g c))
+  fed-run = fed-facts zero-tally (noted-all b cs) (length-replicate {A = ℕ} (tally-kinds * tally-grades) 0) (run .cells) (λ k g c. omega (arith, below k g c, zero-count k g c))
 
   balanced : Balanced b cs
+  unfolding tally-kinds
   balanced =
       record {
         taken = fed-run .all-taken;
         balance = λ g h.
-            let cell : (k : ℕ) → k ≤ 2 → Cell k g = λ k i. record { kind = i; grade = omega arith } in
+            let cell : (k : ℕ) → k < tally-kinds → Cell k g = λ k i. record { kind = i; grade = h } in
             let c₀ : Cell 0 g = cell 0 (omega arith) in
             let c₁ : Cell 1 g = cell 1 (omega arith) in
             let c₂ : Cell 2 g = cell 2 (omega arith) in

@@ -25,7 +25,7 @@ abbrev closing : tie.Else1 → tie.After-close-sound
 closing e = e .before .before .before .before .before
 
 abbrev going : tie.After-slice-known3 → tie.Else1
-going d = d .before .before .before .before .before .before .before .before .before
+going d = d .before .before .before .before .before .before .before .before .before .before
 
 board-sound : (s : tie.Start) → sound (s .args .day .board) ≡ true
 unfolding GoodDay
@@ -70,9 +70,6 @@ returns c =
 cast-n : tie.Need-cast-n
 cast-n c = search needs
 
-cast-t29 : tie.Need-cast-t29
-cast-t29 c = search needs
-
 cast-t30 : tie.Need-cast-t30
 cast-t30 c = search needs
 
@@ -82,9 +79,15 @@ cast-t31 c = search needs
 cast-t32 : tie.Need-cast-t32
 cast-t32 c = search needs
 
+cast-t33 : tie.Need-cast-t33
+cast-t33 c = search needs
+
+slice-aggregate-say : tie.Need-slice-aggregate-say
+slice-aggregate-say c = search needs
+
 say-requires : tie.Need-say-requires
 unfolding line-room
-say-requires c κs = omega (arith, entry (closing (c .before .before .before .before .before .before)) .pre .1 .1)
+say-requires c κs = omega (arith, entry (closing (c .before .before .before .before .before .before .before)) .pre .1 .1)
 
 array-share-prefix-tickets : tie.Need-array-share-prefix-tickets
 array-share-prefix-tickets c = listed c .in-tickets
@@ -106,7 +109,7 @@ say-gone-requires c κs =
     let n = listed d in
     let t = length-take-le _ _ (n .in-tickets) in
     let g = length-take-le _ _ (n .in-grades) in
-    (g ∙ sym t, omega (arith, t, n .few, s .say .ensures .1, s .say .kept .0, entry (closing (going d)) .pre .1 .1))
+    (g ∙ sym t, omega (arith, t, n .few, s .say .ensures .within, s .say .kept .0, entry (closing (going d)) .pre .1 .1))
 
 count-baked-requires : tie.Need-count-baked-requires
 count-baked-requires c κs = search needs
@@ -151,10 +154,11 @@ close-line-spec =
     same-length
     returns
     cast-n
-    cast-t29
     cast-t30
     cast-t31
     cast-t32
+    cast-t33
+    slice-aggregate-say
     say-requires
     array-share-prefix-tickets
     slice-aggregate-say-gone
