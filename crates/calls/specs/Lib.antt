@@ -1,3 +1,4 @@
+pub mod Closings
 pub mod Days
 pub mod Machines
 pub mod Runs

@@ -68,9 +68,9 @@ module _ (now : ℕ) (A : List Job) (r : Job) (m : List·Memᴰ r A) (l : Laxity
   small h =
       let k = up-to now A (l .0) in
       let one : 1 ≤ k = count-mem (λ q. leb (laxity now q) (l .0)) m (le-leb (laxity now r) (l .0) (omega arith)) in
-      let below : leZ (pos (l .0) -ℤ pos k) (pos 32 -ℤ pos 0) ≡ true = difference-order (l .0) k 32 0 ∙ le-leb (l .0 + 0) (32 + k) (omega arith) in
-      let above : leZ (pos 32 -ℤ pos 0) (pos (l .0) -ℤ pos k) ≡ false = difference-order 32 0 (l .0) k ∙ lt-leb (32 + k) (l .0 + 0) (omega arith) in
-      (ap (λ z. leZ z (pos 32)) of ∙ below, ap (leZ (pos 32)) of ∙ above)
+      let below : leZ (pos (l .0) -ℤ pos k) (pos longest-laxity -ℤ pos 0) ≡ true = difference-order (l .0) k longest-laxity 0 ∙ le-leb (l .0 + 0) (longest-laxity + k) (omega arith) in
+      let above : leZ (pos longest-laxity -ℤ pos 0) (pos (l .0) -ℤ pos k) ≡ false = difference-order longest-laxity 0 (l .0) k ∙ lt-leb (longest-laxity + k) (l .0 + 0) (omega arith) in
+      (ap (λ z. leZ z (pos longest-laxity)) of ∙ below, ap (leZ (pos longest-laxity)) of ∙ above)
 
   -- its laxity is the new best
   new-best : (L : List Job) → ((q : Job) → List·Memᴰ q L → AtMost now A (l .0) q) → ((q : Job) → List·Memᴰ q L → First now A (l .0) q)

@@ -62,12 +62,11 @@ module _ (b : Board) (s : sound b ≡ true) where
   few-left start left fits = omega (arith, facts b s .shallow, start-short (b .depth) left start fits)
 
   -- twice a start, and one more, is a u8
-  pub next-byte : (start left : ℕ) → (start + 1) * 2 ^ left ≤ 2 ^ b .depth → start * 2 + 1 < 256
+  pub next-byte : (start left : ℕ) → (start + 1) * 2 ^ left ≤ 2 ^ b .depth → start * 2 + 1 < 2 ^ 8
   unfolding deepest
-  next-byte start left fits = omega (arith, pow-mono {i = b .depth} {j = 3} (facts b s .shallow), start-small (b .depth) left start fits)
+  next-byte start left fits = omega (arith, pow-mono {i = b .depth} {j = deepest} (facts b s .shallow), start-small (b .depth) left start fits)
 
-  pub few-held : b .count ≤ 256
-  unfolding places-held
+  pub few-held : b .count ≤ places-held
   few-held = facts b s .counted
 
 -- at a job of a sound board

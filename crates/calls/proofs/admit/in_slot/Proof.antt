@@ -22,14 +22,15 @@ loop-holds c = omega (arith, in-all (c .args .t1) (c .pre))
 sub-if1 : tie.Need-sub-if1 Inv-loop μ-loop
 sub-if1 c = search needs
 
-within : (c : tie.In-loop Inv-loop μ-loop) → c .before .loop .at - 1 < 256
-unfolding places-held
+within : (c : tie.In-loop Inv-loop μ-loop) → c .before .loop .at - 1 < places-held
 within c = omega (arith, facts (c .before .before .args .t1) (c .before .before .pre) .counted)
 
 mul-if1 : tie.Need-mul-if1 Inv-loop μ-loop
+unfolding places-held
 mul-if1 c = omega (arith, within c)
 
 element-copy-out-if1 : tie.Need-element-copy-out-if1 Inv-loop μ-loop
+unfolding places-held
 element-copy-out-if1 c = within c
 
 sub-result : tie.Need-sub-result Inv-loop μ-loop

@@ -26,9 +26,11 @@ unfolding select
 loop-holds c = search needs
 
 mul-p : tie.Need-mul-p Inv-loop μ-loop
+unfolding places-held
 mul-p c = omega (arith, few-held (c .before .before .before .args .t1) (c .before .before .before .pre .0))
 
 element-copy-out-p : tie.Need-element-copy-out-p Inv-loop μ-loop
+unfolding places-held
 element-copy-out-p c = omega (arith, few-held (c .before .before .before .args .t1) (c .before .before .before .pre .0))
 
 is-within-requires : tie.Need-is-within-requires Inv-loop μ-loop
@@ -38,6 +40,7 @@ is-within-requires c κs =
     (few-left b (s .pre .0) (s .args .start) (s .args .left) (s .pre .1), slot-begun b (s .pre .0), place-in-date b (s .pre .0) (c .before .before .loop .i) (omega arith))
 
 add-n : tie.Need-add-n Inv-loop μ-loop
+unfolding places-held
 add-n c =
     let s = c .before .before .before .before .before .before in
     omega (arith, few-held (s .args .t1) (s .pre .0))

@@ -6,6 +6,7 @@ use native.Mathlib.Omega.{arith}
 use borrow.Author.Needs.{needs}
 use Rattle.lists.specs.Select.{select}
 use Rattle.rule.specs.Bake.{soonest, ticket-of, grade-of}
+use Rattle.board.specs.Limits.{places-held}
 use Rattle.calls.proofs.Searching.Walk.{place-at, jobs-to, within, within-all, slot-begun, few-left, few-held, place-in-date, place-ticket, place-within, one-more, none-more}
 use Rattle.calls.proofs.Searching.Earlier.{Found, found-none, found-more, found-ticket, found-grade}
 use Rattle.calls.proofs.search.soonest.Statement.{statement}
@@ -22,9 +23,11 @@ unfolding select
 loop-holds c = (omega arith, found-none)
 
 mul-p : tie.Need-mul-p Inv-loop μ-loop
+unfolding places-held
 mul-p c = omega (arith, few-held (c .before .before .before .args .t1) (c .before .before .before .pre .0))
 
 element-copy-out-p : tie.Need-element-copy-out-p Inv-loop μ-loop
+unfolding places-held
 element-copy-out-p c = omega (arith, few-held (c .before .before .before .args .t1) (c .before .before .before .pre .0))
 
 is-within-requires : tie.Need-is-within-requires Inv-loop μ-loop

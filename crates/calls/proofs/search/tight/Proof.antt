@@ -12,7 +12,7 @@ use Rattle.rule.specs.Job.{laxity}
 use Rattle.rule.specs.Grade.{bits, starting}
 use Rattle.rule.specs.Tight.{excess}
 use Rattle.rule.proofs.NoRegret.Within.{mem-starting}
-use Rattle.board.specs.Limits.{longest-laxity}
+use Rattle.board.specs.Limits.{longest-laxity, places-held}
 use Rattle.board.specs.Held.{job-in, held}
 use Rattle.calls.proofs.Searching.Walk.{place-at, jobs-to, starts-in, starts-all, slot-begun, few-left, few-held, place-mem, place-in-date, place-laxity, place-starts, one-more, none-more}
 use Rattle.calls.proofs.Searching.BestLaxity.{BestOf, none-yet, best-more, best-all}
@@ -34,9 +34,11 @@ unfolding select longest-laxity
 loop-holds c = (omega arith, none-yet refl refl refl)
 
 mul-p : tie.Need-mul-p Inv-loop μ-loop
+unfolding places-held
 mul-p c = omega (arith, few-held (c .before .before .before .args .t1) (c .before .before .before .pre .0))
 
 element-copy-out-p : tie.Need-element-copy-out-p Inv-loop μ-loop
+unfolding places-held
 element-copy-out-p c = omega (arith, few-held (c .before .before .before .args .t1) (c .before .before .before .pre .0))
 
 starts-with-requires : tie.Need-starts-with-requires Inv-loop μ-loop

@@ -34,14 +34,14 @@ board-sound s = s .pre .0 (s .pre .1 .0)
 -- the lists that are lent have an entry for every place
 closed-full : (k : tie.After-close-sound) → k .close-sound .result ≡ closed (entry k .args .day .board) places-held
 unfolding entries places-held
-closed-full k = k .close-sound .ensures .0
+closed-full k = k .close-sound .ensures .answer
 
 listed : (d : tie.After-slice-known3) → let k = closing (going d) in
     Entered (entry k .args .day .board) (k .close-sound .result .expired) (k .close-sound .last .1 .0) (k .close-sound .last .1 .1 .0)
 listed d =
     let e = going d in
     let k = closing e in
-    entered _ _ _ _ (k .close-sound .result) (board-sound (entry k)) (k .close-sound .ensures .0) (e .if1 .left) (k .close-sound .ensures .1 .1)
+    entered _ _ _ (k .close-sound .result) (board-sound (entry k)) (k .close-sound .ensures) (e .if1 .left)
 
 slice-aggregate-close-sound : tie.Need-slice-aggregate-close-sound
 slice-aggregate-close-sound c = search needs
