@@ -4,12 +4,18 @@ use mathlib.Core.List.{List, _++_, map, Perm}
 use Prim.Native.Nat.{ℕ, zero, suc, min}
 use lib.ListN.{length, drop}
 use Rattle.rule.specs.Job.{Job}
+use Rattle.board.specs.declared.Board.{Board}
+use Rattle.board.specs.declared.Closed.{Closed}
+use Rattle.board.specs.Close.{given-up, closed}
 
 -- 'one entry a rack: ticket, grade, admitted slot', each in a list of its own
 pub record Lent : Type 0 where
   pub tickets : List ℕ
   pub grades : List ℕ
   pub slots : List ℕ
+
+abbrev pub lent-of : (tickets grades slots : List ℕ) → Lent
+lent-of T G S = record { tickets = T; grades = G; slots = S }
 
 -- how many entries it has
 unfoldable pub entries : Lent → ℕ
@@ -29,12 +35,7 @@ unfoldable pub LentAfter : (refusal : ℕ) → List Job → Lent → Lent → Ty
 LentAfter zero A before after = Listed A before after
 LentAfter (suc n) A before after = after ≡ before
 
--- The same with the jobs in the order of A: what our code does, inside. Its callers are promised `LentAfter`, which leaves the order open.
-pub record InOrder (A : List Job) (before after : Lent) : Type 0 where
-  pub tickets : after .tickets ≡ map (λ (r : Job). r .ticket) A ++ drop (length A) (before .tickets)
-  pub grades : after .grades ≡ map (λ (r : Job). r .grade) A ++ drop (length A) (before .grades)
-  pub slots : after .slots ≡ map (λ (r : Job). r .admitted) A ++ drop (length A) (before .slots)
-
-unfoldable pub LentInOrder : (refusal : ℕ) → List Job → Lent → Lent → Type 0
-LentInOrder zero A before after = InOrder A before after
-LentInOrder (suc n) A before after = after ≡ before
+-- What a closing of the board b promises, with its list as it was before and is after: the answer, and the jobs given up in the list.
+pub record ClosedInto (b : Board) (before after : Lent) (r : Closed) : Type 0 where
+  pub answer : r ≡ closed b (entries before)
+  pub lent : LentAfter (r .refusal) (given-up b) before after

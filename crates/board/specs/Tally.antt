@@ -1,26 +1,41 @@
 -- The tally: what one event makes of it.
 use mathlib.Core.Bool.{Bool, _||_}
 use mathlib.Core.List.{List, [], _∷_}
-use Prim.Native.Nat.{ℕ, zero, suc, _+_, _*_}
-use lib.Dec.{leb, ltb}
+use Prim.Native.Nat.{ℕ, zero, suc, _+_, _*_, _^_}
+use lib.Dec.{leb}
 use lib.ListN.{getD, set, replicate}
 use Rattle.board.specs.declared.Tally.{Tally}
 use Rattle.board.specs.declared.Counted.{Counted}
+use Rattle.board.specs.Limits.{most-in-slot, last-slot, deepest}
 use Rattle.board.specs.Rows.{_if_, first-given}
 
--- 'It has a count for each kind and each of eight grades.' 'kind 0 admitted, 1 baked, 2 given up, with a grade'
+-- 'kind 0 admitted, 1 baked, 2 given up, with a grade'
+unfoldable pub tally-kinds : ℕ
+tally-kinds = 3
+
+-- 'each of eight grades': those of the greatest depth
+unfoldable pub tally-grades : ℕ
+unfolding deepest
+tally-grades = 2 ^ deepest
+
+-- '8,000,000': 8 racks a slot over 1,000,000 slots
+unfoldable pub tally-most : ℕ
+unfolding most-in-slot last-slot
+tally-most = most-in-slot * last-slot
+
+-- 'It has a count for each kind and each of eight grades.'
 unfoldable pub cell : (kind grade : ℕ) → ℕ
-cell k g = k * 8 + g
+cell k g = k * tally-grades + g
 
 unfoldable pub count-at : Tally → (kind grade : ℕ) → ℕ
 count-at t k g = getD (t .counts) (cell k g) 0
 
 unfoldable pub zero-tally : Tally
-zero-tally = record { counts = replicate 24 0 }
+zero-tally = record { counts = replicate (tally-kinds * tally-grades) 0 }
 
 -- rows 9 and 10: 'kind above 2 or grade above 7', 'that count is already 8,000,000'
 unfoldable pub tally-number : Tally → (kind grade : ℕ) → ℕ
-tally-number t k g = first-given (9 if (ltb 2 k || ltb 7 g) ∷ 10 if leb 8_000_000 (count-at t k g) ∷ [])
+tally-number t k g = first-given (9 if (leb tally-kinds k || leb tally-grades g) ∷ 10 if leb tally-most (count-at t k g) ∷ [])
 
 unfoldable pub counted-if : ℕ → Tally → (kind grade : ℕ) → Counted
 counted-if zero t k g = record { refusal = 0; tally = record { counts = set (t .counts) (cell k g) (count-at t k g + 1) } }

@@ -3,6 +3,7 @@ ghost use mathlib.Core.Path.{_≡_};
 ghost use Prim.Native.Nat.{_^_, min};
 ghost use Rattle.board.specs.Limits.{longest-laxity, most-in-slot, places-held, last-slot, deepest};
 ghost use Rattle.board.specs.Open.{opened};
+ghost use Rattle.board.specs.Tally.{tally-kinds, tally-grades, tally-most};
 
 // A number of slots counted from the present one: 01's wait, 000's laxity.
 #[repr(C)]
@@ -109,10 +110,23 @@ pub struct Closed {
     pub board: Board,
 }
 
-// A count for each kind of event and each of eight grades, at kind * 8 + grade.
+// A count for each kind of event and each grade, at kind * Tally::GRADES + grade.
 #[repr(C)]
 pub struct Tally {
-    pub counts: [u32; 24],
+    pub counts: [u32; Tally::COUNTS],
+}
+
+impl Tally {
+    // Kinds of events: admitted, baked, given up.
+    pub const KINDS: usize = 3;
+
+    // Grades of the greatest depth.
+    pub const GRADES: usize = 1 << Board::DEEPEST;
+
+    pub const COUNTS: usize = Tally::KINDS * Tally::GRADES;
+
+    // No count passes it: the most racks that a book can have.
+    pub const MOST: u32 = Board::MOST_IN_SLOT as u32 * Board::LAST_SLOT;
 }
 
 // What the tally answers to an event.
@@ -129,4 +143,7 @@ fn limits()
     ensures { λ r. do ⌜ (← ⟦Board::PLACES⟧ .entry) ≡ places-held ⌝ }
     ensures { λ r. do ⌜ (← ⟦Board::LAST_SLOT⟧ .entry) ≡ last-slot ⌝ }
     ensures { λ r. do ⌜ (← ⟦Board::DEEPEST⟧ .entry) ≡ deepest ⌝ }
+    ensures { λ r. do ⌜ (← ⟦Tally::KINDS⟧ .entry) ≡ tally-kinds ⌝ }
+    ensures { λ r. do ⌜ (← ⟦Tally::GRADES⟧ .entry) ≡ tally-grades ⌝ }
+    ensures { λ r. do ⌜ (← ⟦Tally::MOST⟧ .entry) ≡ tally-most ⌝ }
 {}

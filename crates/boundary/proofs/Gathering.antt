@@ -7,7 +7,7 @@ use Prim.Native.Nat.{ℕ, zero, suc, _≤_, min}
 use native.Mathlib.Nat.{ℕ-set}
 use native.Mathlib.Omega.{arith}
 use lib.Dec.{leb}
-use lib.ListN.{length, take, drop, replicate, length-append, length-map}
+use lib.ListN.{length, take, drop, replicate, length-replicate, length-append, length-map}
 use lib.Seq.{length-take-le}
 use borrow.Author.Tests.{leb-true, leb-false, le-leb, lt-leb}
 use Rattle.rule.specs.Job.{Job}
@@ -16,7 +16,7 @@ use Rattle.board.specs.declared.Closed.{Closed}
 use Rattle.board.specs.Limits.{places-held}
 use Rattle.board.specs.Rows.{close-rows}
 use Rattle.board.specs.Close.{bakes, close-number, given-up, closed-with, closed}
-use Rattle.board.specs.Lent.{Lent, LentAfter, entries}
+use Rattle.board.specs.Lent.{Lent, lent-of, LentAfter, entries, ClosedInto}
 use Rattle.boundary.specs.declared.entries.Entry.{Entry}
 use Rattle.boundary.specs.declared.entries.Parts.{Parts}
 use Rattle.boundary.specs.Listed.{EntriesAfter}
@@ -24,15 +24,15 @@ use Rattle.boundary.specs.Parts.{written, Gathered}
 use Rattle.boundary.proofs.Written.{written-none, Begins, written-all}
 
 -- row 8 asks only whether a list has as many entries as the board has places
-long-enough : (lent : ℕ) → leb 256 (min lent 256) ≡ leb 256 lent
-long-enough lent = go (leb 256 lent) refl
+long-enough : (lent : ℕ) → leb places-held (min lent places-held) ≡ leb places-held lent
+long-enough lent = go (leb places-held lent) refl
   where
-    go : (t : Bool) → leb 256 lent ≡ t → leb 256 (min lent 256) ≡ t
-    go true e = le-leb 256 (min lent 256) (omega (arith, leb-true 256 lent e))
-    go false e = lt-leb 256 (min lent 256) (omega (arith, leb-false 256 lent e))
+    go : (t : Bool) → leb places-held lent ≡ t → leb places-held (min lent places-held) ≡ t
+    go true e = le-leb places-held (min lent places-held) (omega (arith, leb-true places-held lent e))
+    go false e = lt-leb places-held (min lent places-held) (omega (arith, leb-false places-held lent e))
 
-closed-alike : (b : Board) (lent : ℕ) → closed b (min lent 256) ≡ closed b lent
-unfolding closed close-number close-rows places-held
+closed-alike : (b : Board) (lent : ℕ) → closed b (min lent places-held) ≡ closed b lent
+unfolding closed close-number close-rows
 closed-alike b lent = rw long-enough refl
 
 -- how many jobs an answer gives up, by its refusal
@@ -58,15 +58,15 @@ same-length {X} {A} p = ∥∥₁-elim p (ℕ-set (length X) (length A)) same-le
 
 -- the arrays of which the first n entries are lent
 abbrev pub zeros : List ℕ
-zeros = replicate 256 0
+zeros = replicate places-held 0
 
 abbrev pub first : ℕ → Lent
-first n = record { tickets = take n zeros; grades = take n zeros; slots = take n zeros }
+first n = lent-of (take n zeros) (take n zeros) (take n zeros)
 
-pub first-length : (n : ℕ) → n ≤ 256 → length (take n zeros) ≡ n
-first-length n few = length-take-le n zeros (omega arith)
+pub first-length : (n : ℕ) → n ≤ places-held → length (take n zeros) ≡ n
+first-length n few = length-take-le n zeros (omega (arith, length-replicate {A = ℕ} places-held 0))
 
-first-entries : (n : ℕ) → n ≤ 256 → entries (first n) ≡ n
+first-entries : (n : ℕ) → n ≤ places-held → entries (first n) ≡ n
 unfolding entries
 first-entries n few = omega (arith, first-length n few)
 
@@ -74,7 +74,7 @@ module _ (n : ℕ) (f : Job → ℕ) (X : List Job) where
   begins : (part : List ℕ) → part ≡ map f X ++ drop (length X) (take n zeros) → Begins f X (part ++ drop n zeros)
   begins part g = record { rest = drop (length X) (take n zeros) ++ drop n zeros; is = ap (_++ drop n zeros) g ∙ append-assoc (map f X) (drop (length X) (take n zeros)) (drop n zeros) }
 
-module _ (b : Board) (lent n : ℕ) (n-is : n ≡ min lent 256) (after : Lent) (r : Closed) (long : length (after .tickets) ≡ length (take n zeros)) (answer : r ≡ closed b (entries (first n))) where
+module _ (b : Board) (lent n : ℕ) (n-is : n ≡ min lent places-held) (after : Lent) (r : Closed) (long : length (after .tickets) ≡ length (take n zeros)) (c : ClosedInto b (first n) after r) where
   -- the arrays afterwards
   abbrev pub parts : Parts
   parts = record { tickets = after .tickets ++ drop n zeros; grades = after .grades ++ drop n zeros; slots = after .slots ++ drop n zeros }
@@ -84,7 +84,7 @@ module _ (b : Board) (lent n : ℕ) (n-is : n ≡ min lent 256) (after : Lent) (
   unfolding LentAfter EntriesAfter closed
   by-refusal zero e l =
       let X = l .order in
-      let count : r .expired ≡ length X = ap (λ (q : Closed). q .expired) answer ∙ all-expired _ b (sym (ap (λ (q : Closed). q .refusal) answer) ∙ e) ∙ sym (same-length (l .each-once)) in
+      let count : r .expired ≡ length X = ap (λ (q : Closed). q .expired) (c .answer) ∙ all-expired _ b (sym (ap (λ (q : Closed). q .refusal) (c .answer)) ∙ e) ∙ sym (same-length (l .each-once)) in
       let few : r .expired ≤ n = omega (arith, count, long, first-length n (omega arith), ap length (l .tickets), length-append (map (λ (j : Job). j .ticket) X) (drop (length X) (take n zeros)), length-map X (λ (j : Job). j .ticket)) in (
         few,
         λ ys h. record {
@@ -97,11 +97,10 @@ module _ (b : Board) (lent n : ℕ) (n-is : n ≡ min lent 256) (after : Lent) (
         },
       )
   by-refusal (suc k) e l =
-      let count : r .expired ≡ 0 = ap (λ (q : Closed). q .expired) answer ∙ none-expired _ k b (sym (ap (λ (q : Closed). q .refusal) answer) ∙ e) in
+      let count : r .expired ≡ 0 = ap (λ (q : Closed). q .expired) (c .answer) ∙ none-expired _ k b (sym (ap (λ (q : Closed). q .refusal) (c .answer)) ∙ e) in
       (omega arith, λ ys h. ap (written ys parts) count ∙ sym (written-none ys parts))
 
-  pub gathered : LentAfter (r .refusal) (given-up b) (first n) after → Gathered b lent (record { answer = r; count = r .expired; parts = parts })
-  unfolding places-held
-  gathered l =
-      let both = by-refusal (r .refusal) refl l in
-      record { answer = answer ∙ ap (closed b) (first-entries n (omega arith) ∙ n-is) ∙ closed-alike b lent; few = omega (arith, both .0); room = omega (arith, both .0); listed = both .1 }
+  pub gathered : Gathered b lent (record { answer = r; count = r .expired; parts = parts })
+  gathered =
+      let both = by-refusal (r .refusal) refl (c .lent) in
+      record { answer = c .answer ∙ ap (closed b) (first-entries n (omega arith) ∙ n-is) ∙ closed-alike b lent; few = omega (arith, both .0); room = omega (arith, both .0); listed = both .1 }

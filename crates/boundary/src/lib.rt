@@ -3,8 +3,7 @@ ghost use mathlib.Core.Path.{_≡_};
 ghost use Rattle.board.specs.Sound.{sound};
 ghost use Rattle.board.specs.Open.{opened};
 ghost use Rattle.board.specs.Admit.{admitted};
-ghost use Rattle.board.specs.Close.{closed, given-up};
-ghost use Rattle.board.specs.Lent.{entries, LentAfter};
+ghost use Rattle.board.specs.Lent.{lent-of, ClosedInto};
 ghost use Rattle.board.specs.Tally.{zero-tally, counted};
 use board::Admitted;
 use board::Board;
@@ -45,8 +44,10 @@ pub extern "C" fn oven_close(
     grades: &mut [u8],
     slots: &mut [u32],
 ) -> Closed
-    ensures answer { λ r. ⌜ r ≡ closed b (entries (record { tickets = now (tickets .entry); grades = now (grades .entry); slots = now (slots .entry) })) ⌝ }
-    ensures lent { λ r. ⌜ LentAfter (r .refusal) (given-up b) (record { tickets = now (tickets .entry); grades = now (grades .entry); slots = now (slots .entry) }) (record { tickets = now (tickets .exit); grades = now (grades .exit); slots = now (slots .exit) }) ⌝ }
+    ensures { λ r.
+        let before = lent-of (now (tickets .entry)) (now (grades .entry)) (now (slots .entry)) in
+        let after = lent-of (now (tickets .exit)) (now (grades .exit)) (now (slots .exit)) in
+        ⌜ ClosedInto b before after r ⌝ }
 {
     calls::close::close(b, tickets, grades, slots)
 }

@@ -1,5 +1,6 @@
 -- What the inner calls answer: those that look at the limits of a board and not along it. They are total, and each is 01's call on a sound board
 -- (proofs/OnSound). Only promises of code cite these definitions.
+use mathlib.Core.Path.{_≡_}
 use mathlib.Core.Bool.{cond, not}
 use mathlib.Core.List.{[], _∷_}
 use Prim.Native.Nat.{ℕ, zero, suc, _^_, _≤_, _<_}
@@ -12,9 +13,11 @@ use Rattle.board.specs.Limits.{longest-laxity, places-held, last-slot, deepest}
 use Rattle.board.specs.Rows.{_if_, first-given, admit-rows, close-rows}
 use Rattle.board.specs.Held.{blank}
 use Rattle.board.specs.Admit.{admitted-if}
-use Rattle.board.specs.Close.{closed-with}
+use Rattle.board.specs.Close.{given-up-with, closed-with}
+use Rattle.board.specs.Lent.{Lent, entries}
 use Rattle.search.specs.Seen.{bakes-seen}
 use Rattle.soundness.specs.Walk.{in-limits}
+use Rattle.calls.specs.Closings.{LentInOrder}
 
 -- a number, and another where it is 0
 infixr 20 _or-else_
@@ -48,6 +51,11 @@ close-number-in-limits b lent = limits-number b or-else first-given (close-rows 
 -- a closing with the job that the search sees
 unfoldable pub closed-in-limits : Board → (lent : ℕ) → Closed
 closed-in-limits b lent = closed-with (close-number-in-limits b lent) b (bakes-seen b)
+
+-- what such a closing promises, with its list as it was before and is after
+pub record ClosedInLimits (b : Board) (before after : Lent) (r : Closed) : Type 0 where
+  pub answer : r ≡ closed-in-limits b (entries before)
+  pub order : LentInOrder (r .refusal) (given-up-with b (r .ticket)) before after
 
 -- what is known of a board and a job where no number is given
 pub record LetIn (b : Board) (laxity grade : ℕ) : Type 0 where

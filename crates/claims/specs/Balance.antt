@@ -10,7 +10,7 @@ use Rattle.board.specs.declared.Board.{Board}
 use Rattle.board.specs.declared.Tally.{Tally}
 use Rattle.board.specs.Held.{held}
 use Rattle.board.specs.Sound.{sound}
-use Rattle.board.specs.Tally.{zero-tally, count-at}
+use Rattle.board.specs.Tally.{tally-grades, zero-tally, count-at}
 use Rattle.board.specs.Events.{admitted-kind, baked-kind, given-up-kind, Event, admit-events, close-events, fed, all-taken}
 use Rattle.claims.specs.Calls.{Call, admit, close, board-after}
 
@@ -39,7 +39,7 @@ on-board g b = how-many (λ (r : Job). eqb (r .grade) g) (held b)
 -- 'admitted = baked + given up + racks on the board, for each grade', and no event is refused
 pub record Balanced (b : Board) (cs : List Call) : Type 0 where
   pub taken : all-taken zero-tally (all-events b cs) ≡ true
-  pub balance : (g : ℕ) → g < 8
+  pub balance : (g : ℕ) → g < tally-grades
       → count-at (tally-after-all b cs) admitted-kind g
       ≡ count-at (tally-after-all b cs) baked-kind g + count-at (tally-after-all b cs) given-up-kind g + on-board g (board-after-all b cs)
 

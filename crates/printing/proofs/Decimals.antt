@@ -2,7 +2,7 @@
 use mathlib.Core.List.{[], _∷_, _++_}
 use mathlib.Core.Logic.{⊎-elim}
 use mathlib.Core.Path.{_≡_, ap, _∙_}
-use Prim.Native.Nat.{ℕ, zero, suc, _+_, _/_, _%_, _^_, _≤_, _<_}
+use Prim.Native.Nat.{ℕ, zero, suc, _+_, _-_, _/_, _%_, _^_, _≤_, _<_}
 use native.Mathlib.Nat.{pow-succ'}
 use native.Mathlib.Omega.{arith}
 use borrow.Author.Tests.{lt-ltb, le-ltb}
@@ -10,6 +10,7 @@ use lib.ListN.{length, length-append}
 use Rattle.lists.proofs.Tests.{cmp}
 use Rattle.lines.specs.Bytes.{Bytes}
 use Rattle.lines.specs.Printing.{digits, decimal}
+use Rattle.printing.specs.Lines.{line-digits}
 
 -- the bytes with a digit behind
 abbrev and-last : ℕ → Bytes → Bytes
@@ -54,5 +55,7 @@ at-most (suc k) n h =
     (λ m. omega (arith, length-one n m))
     (cmp 10 n)
 
-pub digits-20 : (n : ℕ) → n < 2 ^ 64 → length (decimal n) ≤ 20
-digits-20 n h = at-most 19 n (omega arith)
+-- a number of 64 bits has no more than a line has room for
+pub few-digits : (n : ℕ) → n < 2 ^ 64 → length (decimal n) ≤ line-digits
+unfolding line-digits
+few-digits n h = at-most (line-digits - 1) n (omega arith)

@@ -13,17 +13,17 @@ use Rattle.lines.specs.Bytes.{Bytes}
 use Rattle.printing.specs.declared.Line.{Line}
 use Rattle.printing.specs.Lines.{put, room, line-of, line-fits, with-line, end-after}
 
-pub fits-apart : (len at end : ℕ) → line-fits len at end ≡ true → (len ≤ 96) × (at + len ≤ end)
-unfolding line-fits room
+pub fits-apart : (len at end : ℕ) → line-fits len at end ≡ true → (len ≤ room) × (at + len ≤ end)
+unfolding line-fits
 fits-apart len at end h =
-    let b = leb len 96 in
+    let b = leb len room in
     let e = leb (at + len) end in
-    (leb-true len 96 (and-left b e h), leb-true (at + len) end (and-right b e h))
+    (leb-true len room (and-left b e h), leb-true (at + len) end (and-right b e h))
 
-module _ (out : Bytes) (at : ℕ) (l : Line) (h : l .len ≤ 96) (k : at + l .len ≤ length out) where
+module _ (out : Bytes) (at : ℕ) (l : Line) (h : l .len ≤ room) (k : at + l .len ≤ length out) where
   fits : line-fits (l .len) at (length out) ≡ true
-  unfolding line-fits room
-  fits = and-intro _ _ (le-leb (l .len) 96 h) (le-leb (at + l .len) (length out) k)
+  unfolding line-fits
+  fits = and-intro _ _ (le-leb (l .len) room h) (le-leb (at + l .len) (length out) k)
 
   pub line-placed : with-line out at l ≡ put out at (take (l .len) (l .bytes))
   unfolding with-line
@@ -39,7 +39,7 @@ unfolding line-of
 line-bytes bs = take-append-seam bs (replicate (room - length bs) 0)
 
 -- and is put whole
-module _ (out : Bytes) (at : ℕ) (bs : Bytes) (h : length bs ≤ 96) (k : at + length bs ≤ length out) where
+module _ (out : Bytes) (at : ℕ) (bs : Bytes) (h : length bs ≤ room) (k : at + length bs ≤ length out) where
   pub whole-placed : with-line out at (line-of bs) ≡ put out at bs
   unfolding line-of
   whole-placed = line-placed out at (line-of bs) h k ∙ ap (put out at) (line-bytes bs)

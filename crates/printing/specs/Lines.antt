@@ -1,15 +1,24 @@
 -- A line as the code holds it, and bytes put into a buffer.
 use mathlib.Core.Bool.{Bool, cond, _&&_}
 use mathlib.Core.List.{_++_}
-use Prim.Native.Nat.{ℕ, _+_, _-_}
+use Prim.Native.Nat.{ℕ, _+_, _*_, _-_}
 use lib.Dec.{leb}
 use lib.ListN.{length, take, drop, replicate}
 use Rattle.lines.specs.Bytes.{Bytes}
 use Rattle.printing.specs.declared.Line.{Line}
 
--- `Line::ROOM`
+-- `Line::NUMBERS`: the most numbers of a line, as 'B,slot,ticket,grade,number given up' has
+unfoldable pub line-numbers : ℕ
+line-numbers = 4
+
+-- `Line::DIGITS`: the most digits of a number of 64 bits
+unfoldable pub line-digits : ℕ
+line-digits = 20
+
+-- `Line::ROOM`: a letter, the numbers each behind a comma, and a line end
 unfoldable pub room : ℕ
-room = 96
+unfolding line-numbers line-digits
+room = 1 + line-numbers * (1 + line-digits) + 1
 
 -- the line of these bytes, with zeros behind them
 unfoldable pub line-of : Bytes → Line

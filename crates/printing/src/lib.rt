@@ -1,9 +1,9 @@
 // One line of the program's output: a letter, numbers each behind a comma, and a line end; and its place in a buffer that the caller lends.
 ghost use mathlib.Core.Path.{_≡_};
-ghost use Prim.Native.Nat.{_+_, _≤_, min};
+ghost use Prim.Native.Nat.{_+_, _≤_};
 ghost use lib.ListN.{length, take};
 ghost use Rattle.lines.specs.Printing.{decimal, printed};
-ghost use Rattle.printing.specs.Lines.{put, line-of, line-fits, with-line, end-after};
+ghost use Rattle.printing.specs.Lines.{line-numbers, line-digits, room, put, line-of, line-fits, with-line, end-after};
 
 // A line to print: its bytes are the first `len`.
 pub struct Line {
@@ -12,20 +12,27 @@ pub struct Line {
 }
 
 impl Line {
-    // Room for a letter, four numbers of at most 20 digits each behind a comma, and a line end.
-    pub const ROOM: usize = 96;
+    // Numbers of a line, at the most.
+    pub const NUMBERS: usize = 4;
+
+    // Digits of a number, at the most.
+    pub const DIGITS: usize = 20;
+
+    // Room for a letter, the numbers each behind a comma, and a line end.
+    pub const ROOM: usize = 1 + Line::NUMBERS * (1 + Line::DIGITS) + 1;
 }
 
-// The line with this letter and the first `count` of these numbers, each behind a comma, in decimal without leading zeros, and a line end.
-pub fn print_line(letter: u8, numbers: [u64; 4], count: usize) -> Line
-    ensures { λ r. ⌜ (r ≡ line-of (printed letter (take count numbers))) × (r .len ≤ 96) ⌝ }
+// The line with this letter and these numbers, each behind a comma, in decimal without leading zeros, and a line end. Of more numbers than a line
+// has, the first ones.
+pub fn print_line(letter: u8, numbers: &[u64]) -> Line
+    ensures { λ r. ⌜ (r ≡ line-of (printed letter (take line-numbers (now (numbers .entry))))) × (r .len ≤ room) ⌝ }
 {
     let mut bytes = [0u8; Line::ROOM];
     bytes[0] = letter;
-    let last = at_most_four(count);
+    let count = lists::lesser(numbers.len(), Line::NUMBERS);
     let mut at: usize = 1;
     let mut i: usize = 0;
-    while i < last {
+    while i < count {
         let n = numbers[i];
         bytes[at] = b',';
         at = put_number(&mut bytes, at + 1, n);
@@ -65,16 +72,10 @@ fn has_room(len: usize, at: usize, end: usize) -> bool
     len <= end - at
 }
 
-fn at_most_four(count: usize) -> usize
-    ensures { λ r. ⌜ r ≡ min count 4 ⌝ }
-{
-    if count < 4 { count } else { 4 }
-}
-
 // Puts the digits of n at `at`, the last digit first; the new end.
 fn put_number(out: &mut [u8], at: usize, n: u64) -> usize
-    requires { ⌜ at + 20 ≤ length (now out) ⌝ }
-    ensures { λ r. ⌜ (r ≡ at + length (decimal n)) × (r ≤ at + 20) × (now (out .exit) ≡ put (now (out .entry)) at (decimal n)) ⌝ }
+    requires { ⌜ at + line-digits ≤ length (now out) ⌝ }
+    ensures { λ r. ⌜ (r ≡ at + length (decimal n)) × (r ≤ at + line-digits) × (now (out .exit) ≡ put (now (out .entry)) at (decimal n)) ⌝ }
 {
     let end = at + digit_count(n);
     let mut next = end - 1;
@@ -90,7 +91,7 @@ fn put_number(out: &mut [u8], at: usize, n: u64) -> usize
 
 // How many digits n has.
 fn digit_count(n: u64) -> usize
-    ensures { λ r. ⌜ (r ≡ length (decimal n)) × (1 ≤ r) × (r ≤ 20) ⌝ }
+    ensures { λ r. ⌜ (r ≡ length (decimal n)) × (1 ≤ r) × (r ≤ line-digits) ⌝ }
 {
     let mut left = n;
     let mut count: usize = 1;

@@ -3,13 +3,14 @@ use mathlib.Core.Path.{_≡_}
 use mathlib.Core.Bool.{true, cond}
 use mathlib.Core.List.{List, [], _∷_, _++_}
 use mathlib.Core.Option.{none, some}
-use Prim.Native.Nat.{ℕ, _+_, _≤_}
+use Prim.Native.Nat.{ℕ, _+_, _*_, _≤_}
 use lib.ListN.{length}
+use Rattle.board.specs.Limits.{places-held}
 use Rattle.board.specs.Sound.{sound}
 use Rattle.lines.specs.Bytes.{Bytes, letter-G}
 use Rattle.lines.specs.Printing.{printed}
 use Rattle.lines.specs.Session.{Session, Answer, answer}
-use Rattle.printing.specs.Lines.{put}
+use Rattle.printing.specs.Lines.{room, put}
 use Rattle.program.specs.declared.session.Day.{Day}
 use Rattle.program.specs.declared.session.Said.{Said}
 
@@ -20,9 +21,16 @@ session-of d = record { board = cond (d .opened) (some (d .board)) none; tally =
 unfoldable pub GoodDay : Day → Type 0
 GoodDay d = d .opened ≡ true → sound (d .board) ≡ true
 
--- bytes that are enough for what one line prints: a B line and 256 G lines, 96 each
+-- bytes that are enough for what one line prints: a B line, and a G line for each job that a board holds
 unfoldable pub line-room : ℕ
-line-room = 24_672
+unfolding places-held room
+line-room = (1 + places-held) * room
+
+-- bytes put at `at` in the buffer, so many at the most, which end at `r`
+pub record PutWithin (most : ℕ) (bs out : Bytes) (at r : ℕ) (out' : Bytes) : Type 0 where
+  pub end : r ≡ at + length bs
+  pub within : r ≤ at + most
+  pub bytes : out' ≡ put out at bs
 
 -- an answer given: the day after it is the answer's session, and the answer's bytes stand at `at` in the buffer
 pub record Given (a : Answer) (out : Bytes) (at : ℕ) (r : Said) (out' : Bytes) : Type 0 where

@@ -6,10 +6,11 @@ use Prim.Native.Nat.{ℕ, _+_, _*_, _≤_, _<_}
 use lib.Dec.{eqb}
 use lib.ListN.{length, take, drop, getD}
 use Rattle.lists.specs.Select.{every}
+use Rattle.board.specs.Tally.{tally-grades}
 use Rattle.lines.specs.Bytes.{Bytes, line-end}
 use Rattle.lines.specs.Session.{Answer, answer}
 use Rattle.lines.specs.Machine.{Machine, new-machine, hold, after-bytes, printed-along}
-use Rattle.printing.specs.Lines.{put}
+use Rattle.printing.specs.Lines.{room, put}
 use Rattle.program.specs.declared.feed.Held.{Held}
 use Rattle.program.specs.declared.feed.Desk.{Desk}
 use Rattle.program.specs.declared.feed.Fed.{Fed}
@@ -63,9 +64,10 @@ pub record GoesOn (chunk : Bytes) (from : ℕ) (out : Bytes) (at : ℕ) (r : Fed
   pub further : at + line-room ≤ length out → from < length chunk → from < r .used
   pub to-the-end : r .at + line-room ≤ length out → r .used ≡ length chunk
 
--- bytes that are enough for what the end of input prints: a line's answer, and T lines for 8 grades, 96 each
+-- bytes that are enough for what the end of input prints: a line's answer, and a T line for each grade
 unfoldable pub end-room : ℕ
-end-room = 25_440
+unfolding line-room tally-grades room
+end-room = line-room + tally-grades * room
 
 -- the answer to a line that has begun
 unfoldable pub last-answer : Machine → Answer

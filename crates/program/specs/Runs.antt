@@ -2,7 +2,7 @@
 -- hands it, no contract can say. It says how many.
 use mathlib.Core.Path.{_≡_}
 use mathlib.Core.Bool.{true, false}
-use Prim.Native.Nat.{ℕ, _+_, _*_, _≤_, _<_}
+use Prim.Native.Nat.{ℕ, _+_, _*_, _^_, _≤_, _<_}
 use lib.ListN.{length}
 use Rattle.lines.specs.Bytes.{Bytes}
 use Rattle.lines.specs.Session.{output}
@@ -17,9 +17,9 @@ use Rattle.program.specs.Machines.{machine-of}
 
 -- `Outcome::MOST_READ`
 unfoldable pub most-read : ℕ
-most-read = 281_474_976_710_656
+most-read = 2 ^ 48
 
--- bytes of a buffer, and of a chunk at the most
+-- bytes of a buffer, which is the kit's `io::large_buffer`, and of a chunk at the most
 unfoldable pub buffer-length : ℕ
 buffer-length = 65_536
 

@@ -2,9 +2,10 @@
 ghost use mathlib.Core.Path.{_≡_};
 ghost use Prim.Native.Nat.{_+_, _*_, _≤_, _<_, _^_};
 ghost use lib.ListN.{length};
-ghost use Rattle.board.specs.Tally.{count-at};
+ghost use Rattle.board.specs.Tally.{tally-kinds, tally-grades, count-at};
 ghost use Rattle.lines.specs.Session.{printed-tally};
 ghost use Rattle.lines.specs.Machine.{printed-at-end};
+ghost use Rattle.printing.specs.Lines.{room};
 ghost use Rattle.program.specs.Days.{GoodDay, line-room, Given};
 ghost use Rattle.program.specs.Machines.{NewDesk, held-bytes, machine-of, used-bytes, LineEnds, hold-all, TakenIn, GoesOn, end-room, last-answer, PutAt};
 use crate::session;
@@ -12,6 +13,7 @@ use crate::session::Day;
 use crate::session::Said;
 use board::Board;
 use board::Tally;
+use printing::Line;
 
 // The bytes of a line so far, the first 41 at the most.
 pub struct Held {
@@ -38,11 +40,8 @@ pub struct Fed {
     pub at: usize,
 }
 
-// Bytes that are enough for what one line prints.
-pub(crate) const LINE_ROOM: usize = 24_672;
-
-// Bytes that are enough for what the end of input prints.
-pub(crate) const END_ROOM: usize = 25_440;
+// Bytes that are enough for what one line prints: a B line, and a G line for each job that a board holds.
+const LINE_ROOM: usize = (1 + Board::PLACES) * Line::ROOM;
 
 // The desk before the first byte.
 pub(crate) fn new_desk() -> Desk
@@ -154,17 +153,17 @@ fn last_line(desk: Desk, out: &mut [u8], at: usize) -> Said
 
 // A count of the tally.
 fn count_of(t: Tally, kind: usize, grade: usize) -> u64
-    requires { ⌜ (kind ≤ 2) × (grade ≤ 7) ⌝ }
+    requires { ⌜ (kind < tally-kinds) × (grade < tally-grades) ⌝ }
     ensures { λ r. ⌜ r ≡ count-at t kind grade ⌝ }
 {
-    let at = kind * 8 + grade;
+    let at = kind * Tally::GRADES + grade;
     let n = t.counts[at];
     n as u64
 }
 
 // Prints the tally, a line for each of so many grades.
 fn say_tally(t: Tally, grades: usize, out: &mut [u8], at: usize) -> usize
-    requires { ⌜ (grades ≤ 8) × (at + 96 * grades ≤ length (now out)) ⌝ }
+    requires { ⌜ (grades ≤ tally-grades) × (at + room * grades ≤ length (now out)) ⌝ }
     ensures { λ r. ⌜ PutAt (printed-tally grades 0 t) (now (out .entry)) at r (now (out .exit)) ⌝ }
 {
     let mut end = at;
@@ -173,7 +172,7 @@ fn say_tally(t: Tally, grades: usize, out: &mut [u8], at: usize) -> usize
         let admitted = count_of(t, 0, g);
         let baked = count_of(t, 1, g);
         let expired = count_of(t, 2, g);
-        end = session::say(out, end, b'T', [g as u64, admitted, baked, expired], 4);
+        end = session::say(out, end, b'T', &[g as u64, admitted, baked, expired]);
         g += 1;
     }
     end

@@ -29,7 +29,7 @@ pub struct Outcome {
 
 impl Outcome {
     // Bytes read before the last read, at the most: so few that no count here wraps, however many lines they are.
-    pub const MOST_READ: u64 = 281_474_976_710_656;
+    pub const MOST_READ: u64 = 1 << 48;
 }
 
 // A chunk taken in: the desk after it, how many of the bytes that it prints the system took, and whether these are all.

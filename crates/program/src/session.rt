@@ -3,13 +3,13 @@ ghost use mathlib.Core.Path.{_≡_};
 ghost use mathlib.Core.Bool.{true};
 ghost use mathlib.Core.List.{map};
 ghost use Prim.Native.Nat.{_+_, _*_, _≤_};
-ghost use lib.ListN.{length, take};
+ghost use lib.ListN.{length};
 ghost use Rattle.board.specs.Tally.{counted};
 ghost use Rattle.board.specs.Events.{given-up-kind, event, baked-events, fed};
 ghost use Rattle.lines.specs.Printing.{printed};
 ghost use Rattle.lines.specs.Session.{refused, answer-open, answer-admit, answer-close};
-ghost use Rattle.printing.specs.Lines.{put};
-ghost use Rattle.program.specs.Days.{session-of, GoodDay, line-room, Given, Answered, printed-each};
+ghost use Rattle.printing.specs.Lines.{line-numbers, room};
+ghost use Rattle.program.specs.Days.{session-of, GoodDay, line-room, Given, PutWithin, Answered, printed-each};
 use board::Board;
 use board::Laxity;
 use board::Tally;
@@ -31,11 +31,11 @@ pub struct Said {
 }
 
 // Prints a line at `at`; where it ends.
-pub(crate) fn say(out: &mut [u8], at: usize, letter: u8, numbers: [u64; 4], count: usize) -> usize
-    requires { ⌜ at + 96 ≤ length (now out) ⌝ }
-    ensures { λ r. ⌜ (r ≡ at + length (printed letter (take count numbers))) × (r ≤ at + 96) × (now (out .exit) ≡ put (now (out .entry)) at (printed letter (take count numbers))) ⌝ }
+pub(crate) fn say(out: &mut [u8], at: usize, letter: u8, numbers: &[u64]) -> usize
+    requires { ⌜ (length (now numbers) ≤ line-numbers) × (at + room ≤ length (now out)) ⌝ }
+    ensures { λ r. ⌜ PutWithin room (printed letter (now (numbers .entry))) (now (out .entry)) at r (now (out .exit)) ⌝ }
 {
-    let l = printing::print_line(letter, numbers, count);
+    let l = printing::print_line(letter, numbers);
     printing::put_line(out, at, l)
 }
 
@@ -53,7 +53,7 @@ fn refuse(day: Day, line: u64, number: u8, out: &mut [u8], at: usize) -> Said
     requires { ⌜ at + line-room ≤ length (now out) ⌝ }
     ensures { λ r. ⌜ Given (refused (session-of day) line number) (now (out .entry)) at r (now (out .exit)) ⌝ }
 {
-    let end = say(out, at, b'R', [line, number as u64, 0, 0], 2);
+    let end = say(out, at, b'R', &[line, number as u64]);
     Said { day, at: end }
 }
 
@@ -67,7 +67,7 @@ fn open_line(day: Day, line: u64, depth: u32, out: &mut [u8], at: usize) -> Said
     if o.refusal != 0 {
         return refuse(day, line, o.refusal, out, at);
     }
-    let end = say(out, at, b'D', [depth as u64, 0, 0, 0], 1);
+    let end = say(out, at, b'D', &[depth as u64]);
     let board = o.board;
     let tally = day.tally;
     let next = Day {
@@ -98,7 +98,7 @@ fn admit_line(
     if a.refusal != 0 {
         return refuse(day, line, a.refusal, out, at);
     }
-    let end = say(out, at, b'A', [ticket as u64, a.last.0 as u64, 0, 0], 2);
+    let end = say(out, at, b'A', &[ticket as u64, a.last.0 as u64]);
     let board = a.board;
     let old = day.tally;
     let tally = count(old, 0, grade);
@@ -113,8 +113,8 @@ fn admit_line(
 // Prints a line for each job given up; where the last one ends.
 fn say_gone(slot: u32, tickets: &[u32], grades: &[u8], out: &mut [u8], at: usize) -> usize
     requires { ⌜ length (now grades) ≡ length (now tickets) ⌝ }
-    requires { ⌜ at + length (now tickets) * 96 ≤ length (now out) ⌝ }
-    ensures { λ r. ⌜ (r ≡ at + length (printed-each slot (now (tickets .entry)) (now (grades .entry)))) × (r ≤ at + length (now (tickets .entry)) * 96) × (now (out .exit) ≡ put (now (out .entry)) at (printed-each slot (now (tickets .entry)) (now (grades .entry)))) ⌝ }
+    requires { ⌜ at + length (now tickets) * room ≤ length (now out) ⌝ }
+    ensures { λ r. ⌜ PutWithin (length (now (tickets .entry)) * room) (printed-each slot (now (tickets .entry)) (now (grades .entry))) (now (out .entry)) at r (now (out .exit)) ⌝ }
 {
     let mut end = at;
     let mut i: usize = 0;
@@ -123,8 +123,7 @@ fn say_gone(slot: u32, tickets: &[u32], grades: &[u8], out: &mut [u8], at: usize
             out,
             end,
             b'G',
-            [slot as u64, tickets[i] as u64, grades[i] as u64, 0],
-            3,
+            &[slot as u64, tickets[i] as u64, grades[i] as u64],
         );
         i += 1;
     }
@@ -174,13 +173,12 @@ fn close_line(day: Day, line: u64, out: &mut [u8], at: usize) -> Said
         out,
         at,
         b'B',
-        [
+        &[
             b.slot.0 as u64,
             c.ticket as u64,
             c.grade as u64,
             c.expired as u64,
         ],
-        4,
     );
     let end = say_gone(b.slot.0, &tickets[..n], &grades[..n], out, mid);
     let old = day.tally;

@@ -1,38 +1,28 @@
 // The tally: a count for each kind of event and each grade, kept by the caller.
 ghost use mathlib.Core.Path.{_≡_};
 ghost use mathlib.Core.Bool.{_||_};
-ghost use lib.Dec.{ltb};
-ghost use Rattle.board.specs.Tally.{zero-tally, counted};
+ghost use lib.Dec.{leb};
+ghost use Rattle.board.specs.Tally.{tally-kinds, tally-grades, zero-tally, counted};
 use board::Counted;
 use board::Tally;
-
-// Admitted, baked, given up.
-const KINDS: u32 = 3;
-
-const GRADES: u32 = 8;
-
-const COUNTS: usize = 24;
-
-// No count passes it.
-const MOST: u32 = 8_000_000;
 
 // A new tally.
 pub fn zero() -> Tally
     ensures { λ r. ⌜ r ≡ zero-tally ⌝ }
 {
     Tally {
-        counts: [0; COUNTS],
+        counts: [0; Tally::COUNTS],
     }
 }
 
 // Whether the tally has no count for such an event.
 fn outside(kind: u32, grade: u32) -> bool
-    ensures { λ r. ⌜ r ≡ (ltb 2 kind || ltb 7 grade) ⌝ }
+    ensures { λ r. ⌜ r ≡ (leb tally-kinds kind || leb tally-grades grade) ⌝ }
 {
-    if KINDS <= kind {
+    if Tally::KINDS <= kind as usize {
         return true;
     }
-    GRADES <= grade
+    Tally::GRADES <= grade as usize
 }
 
 // A refusal: the number, and the tally as it was.
@@ -52,9 +42,9 @@ pub fn count_event(mut t: Tally, kind: u32, grade: u32) -> Counted
     if outside(kind, grade) {
         return refused(9, t);
     }
-    let at = (kind * GRADES + grade) as usize;
+    let at = kind as usize * Tally::GRADES + grade as usize;
     let n = t.counts[at];
-    if MOST <= n {
+    if Tally::MOST <= n {
         return refused(10, t);
     }
     t.counts[at] = n + 1;

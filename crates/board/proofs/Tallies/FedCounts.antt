@@ -1,8 +1,8 @@
--- A tally fed events counts each kind and grade, and refuses none while no count passes 8,000,000.
+-- A tally fed events counts each kind and grade, and refuses none while no count passes the most.
 use mathlib.Core.Path.{_≡_, refl, ap, _∙_}
 use mathlib.Core.Bool.{true, _&&_}
 use mathlib.Core.List.{List, [], _∷_, List·Memᴰ, List·Memᴰ·head, List·Memᴰ·tail}
-use Prim.Native.Nat.{ℕ, _+_, _≤_, _<_}
+use Prim.Native.Nat.{ℕ, _+_, _*_, _≤_, _<_}
 use native.Mathlib.Omega.{arith}
 use lib.Dec.{eqb}
 use lib.ListN.{length}
@@ -12,7 +12,7 @@ use Rattle.lists.proofs.Tests.{and-intro}
 use Rattle.lists.proofs.Counting.{one-if-yes}
 use Rattle.board.specs.declared.Tally.{Tally}
 use Rattle.board.specs.declared.Counted.{Counted}
-use Rattle.board.specs.Tally.{counted, count-at}
+use Rattle.board.specs.Tally.{tally-kinds, tally-grades, tally-most, counted, count-at}
 use Rattle.board.specs.Events.{Event, fed, event-numbers, all-taken}
 use Rattle.board.proofs.Tallies.CountAt.{Cell, taken, counts-kept, counted-at}
 
@@ -24,8 +24,8 @@ pub record FedFacts (t : Tally) (es : List Event) : Type 0 where
   pub none-refused : all-taken t es ≡ true
   pub counts : (k g : ℕ) → Cell k g → count-at (fed t es) k g ≡ times k g es + count-at t k g
 
-pub fed-facts : (t : Tally) (es : List Event) → length (t .counts) ≡ 24 → ((e : Event) → List·Memᴰ e es → Cell (e .kind) (e .grade))
-    → ((k g : ℕ) → Cell k g → times k g es + count-at t k g ≤ 8_000_000) → FedFacts t es
+pub fed-facts : (t : Tally) (es : List Event) → length (t .counts) ≡ tally-kinds * tally-grades → ((e : Event) → List·Memᴰ e es → Cell (e .kind) (e .grade))
+    → ((k g : ℕ) → Cell k g → times k g es + count-at t k g ≤ tally-most) → FedFacts t es
 unfolding all-taken event-numbers every fed how-many
 fed-facts t [] full cells room = record { none-refused = refl; counts = λ k g c. omega arith }
 fed-facts t (e ∷ es) full cells room =
@@ -33,7 +33,7 @@ fed-facts t (e ∷ es) full cells room =
     let itself : one-if (eqb (e .kind) (e .kind) && eqb (e .grade) (e .grade)) ≡ 1 =
     one-if-yes (eqb (e .kind) (e .kind) && eqb (e .grade) (e .grade))
     (and-intro (eqb (e .kind) (e .kind)) (eqb (e .grade) (e .grade)) (eq-eqb (e .kind) (e .kind) refl) (eq-eqb (e .grade) (e .grade) refl)) in
-    let below : count-at t (e .kind) (e .grade) < 8_000_000 = omega (arith, itself, room (e .kind) (e .grade) cell) in
+    let below : count-at t (e .kind) (e .grade) < tally-most = omega (arith, itself, room (e .kind) (e .grade) cell) in
     let next : Tally = counted t (e .kind) (e .grade) .tally in
     let rest : FedFacts next es =
     fed-facts next es (counts-kept t (e .kind) (e .grade) cell below ∙ full) (λ x m. cells x (List·Memᴰ·tail m))

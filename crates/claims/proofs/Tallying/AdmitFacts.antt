@@ -2,7 +2,7 @@
 use mathlib.Core.Path.{_≡_, refl, sym, ap, _∙_}
 use mathlib.Core.Bool.{true}
 use mathlib.Core.List.{[], _∷_, _++_, List·Memᴰ·eq-of-singleton}
-use Prim.Native.Nat.{ℕ, zero, suc, _+_, _^_, _≤_, _<_}
+use Prim.Native.Nat.{ℕ, zero, suc, _+_, _≤_}
 use native.Mathlib.Omega.{arith}
 use lib.Dec.{eqb}
 use borrow.Author.Tests.{eq-eqb}
@@ -10,7 +10,7 @@ use Rattle.lists.specs.Select.{one-if, how-many}
 use Rattle.lists.proofs.Counting.{one-if-yes, one-if-most, count-append}
 use Rattle.rule.specs.Job.{Job, job}
 use Rattle.board.specs.declared.Board.{Board}
-use Rattle.board.specs.Limits.{most-in-slot, last-slot, deepest}
+use Rattle.board.specs.Limits.{most-in-slot, last-slot}
 use Rattle.board.specs.Held.{held, in-slot}
 use Rattle.board.specs.Sound.{sound}
 use Rattle.board.specs.Admit.{admit-number, with-job, admitted-if, admitted}
@@ -18,21 +18,13 @@ use Rattle.board.specs.Events.{admitted-kind, baked-kind, given-up-kind, event,
 use Rattle.board.proofs.Soundness.Facts.{SoundFacts, admitted-in}
 use Rattle.board.proofs.Soundness.Apart.{facts}
 use Rattle.board.proofs.Soundness.FreePlace.{room}
+use Rattle.board.proofs.Tallies.CountAt.{grades-counted}
 use Rattle.board.proofs.Tallies.Kinds.{same-cell, admitted-cell}
 use Rattle.board.proofs.Calls.Rows.{Admits, admits}
 use Rattle.board.proofs.Calls.HeldAfter.{held-with-job}
 use Rattle.board.proofs.Calls.SoundAfter.{admit-number-sound, with-job-sound}
 use Rattle.claims.specs.Balance.{on-board}
 use Rattle.claims.proofs.Tallying.RunFacts.{still, Leads, leads-nowhere}
-
--- a grade of a sound board has a count
-pub eight-grades : (d g : ℕ) → d ≤ deepest → g < 2 ^ d → g ≤ 7
-unfolding deepest
-eight-grades zero g h k = omega arith
-eight-grades (suc zero) g h k = omega arith
-eight-grades (suc (suc zero)) g h k = omega arith
-eight-grades (suc (suc (suc zero))) g h k = omega arith
-eight-grades (suc (suc (suc (suc d)))) g h k = omega arith
 
 module _ (b : Board) (t w g : ℕ) (s : sound b ≡ true) (e : admit-number b t w g ≡ 0) where
   rows : Admits (b .slot .0) (b .highest) (in-slot b) (b .depth) t w g
@@ -72,7 +64,7 @@ module _ (b : Board) (t w g : ℕ) (s : sound b ≡ true) (e : admit-number b t 
   taken =
       record {
         is-sound = with-job-sound b t w g s e;
-        cells = λ x m. same-cell (List·Memᴰ·eq-of-singleton m) (admitted-cell (eight-grades (b .depth) g (known .shallow) (rows .graded)));
+        cells = λ x m. same-cell (List·Memᴰ·eq-of-singleton m) (admitted-cell (omega (arith, rows .graded, grades-counted (known .shallow))));
         balance = λ n. omega (arith, one-more n);
         intake = λ n. omega (arith, less, one-if-most (eqb g n));
       }

@@ -4,7 +4,7 @@ use mathlib.Core.Bool.{true, false, _&&_}
 use mathlib.Core.Logic.{_⊎_, inl, inr}
 use mathlib.Core.List.{List, [], _∷_, _++_, List·Memᴰ, List·Memᴰ·append-cases, List·Memᴰ·not-nil, List·Memᴰ·eq-of-singleton, Memᴰ·of-map}
 use mathlib.Core.Option.{Option, none, some}
-use Prim.Native.Nat.{ℕ, zero, suc, _+_, _≤_}
+use Prim.Native.Nat.{ℕ, zero, suc, _+_, _≤_, _<_}
 use native.Mathlib.Omega.{arith}
 use lib.Dec.{eqb}
 use borrow.Author.Tests.{ne-eqb}
@@ -19,17 +19,17 @@ use Rattle.board.specs.Limits.{most-in-slot, last-slot}
 use Rattle.board.specs.Held.{held, in-slot, thinned}
 use Rattle.board.specs.Sound.{sound}
 use Rattle.board.specs.Close.{close-number, given-up-with, bakes, given-up, moved-on-with, closed-with, closed}
+use Rattle.board.specs.Tally.{tally-grades}
 use Rattle.board.specs.Events.{admitted-kind, baked-kind, given-up-kind, Event, event, unless-refused, baked-events, given-up-events, closing-events, close-events}
 use Rattle.lists.proofs.Spread.{sharing}
 use Rattle.board.proofs.Soundness.Facts.{SoundFacts}
 use Rattle.board.proofs.Soundness.Apart.{facts}
 use Rattle.board.proofs.Calls.SoundAfter.{moved-on-sound, close-going}
-use Rattle.board.proofs.Tallies.CountAt.{Cell}
+use Rattle.board.proofs.Tallies.CountAt.{Cell, grades-counted}
 use Rattle.board.proofs.Tallies.Kinds.{same-cell, baked-cell, given-up-cell}
 use Rattle.board.proofs.Tallies.FedCounts.{times}
 use Rattle.claims.specs.Balance.{on-board}
 use Rattle.claims.proofs.Tallying.RunFacts.{still, Leads, leads-nowhere}
-use Rattle.claims.proofs.Tallying.AdmitFacts.{eight-grades}
 use Rattle.claims.proofs.Tallying.Fates.{baked-held, ticket-above, none-baked, one-baked, fates}
 
 -- the events of the job that is baked
@@ -41,8 +41,8 @@ module _ (b : Board) (s : sound b ≡ true) where
   known : SoundFacts b
   known = facts b s
 
-  fits : (q : Job) → List·Memᴰ q (held b) → q .grade ≤ 7
-  fits q m = eight-grades (b .depth) (q .grade) (known .shallow) (known .each q m .graded)
+  fits : (q : Job) → List·Memᴰ q (held b) → q .grade < tally-grades
+  fits q m = omega (arith, known .each q m .graded, grades-counted (known .shallow))
 
   -- a job that is baked has a ticket
   named : (o : Option Job) → bakes b ≡ o → baked-events (ticket-of o) (grade-of o) ≡ job-events o

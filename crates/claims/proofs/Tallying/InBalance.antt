@@ -2,16 +2,15 @@
 use mathlib.Core.Path.{_≡_, ap}
 use mathlib.Core.Bool.{true}
 use mathlib.Core.List.{List, [], _∷_}
-use Prim.Native.Nat.{ℕ, _+_, _≤_}
+use Prim.Native.Nat.{ℕ, _+_, _*_, _≤_, _<_}
 use native.Mathlib.Omega.{arith}
 use lib.Dec.{eqb}
 use lib.ListN.{length-replicate}
 use Rattle.lists.specs.Select.{how-many}
 use Rattle.rule.specs.Job.{Job}
 use Rattle.board.specs.declared.Board.{Board}
-use Rattle.board.specs.Limits.{most-in-slot, last-slot}
 use Rattle.board.specs.Sound.{sound}
-use Rattle.board.specs.Tally.{zero-tally, count-at}
+use Rattle.board.specs.Tally.{tally-kinds, tally-grades, tally-most, zero-tally, count-at}
 use Rattle.board.specs.Events.{admitted-kind, baked-kind, given-up-kind, Event, fed}
 use Rattle.board.proofs.Soundness.Facts.{SoundFacts}
 use Rattle.board.proofs.Soundness.HeldCount.{no-jobs}
@@ -25,9 +24,9 @@ use Rattle.claims.proofs.Tallying.RunFacts.{still, Leads, leads-nowhere
 use Rattle.claims.proofs.Tallying.AdmitFacts.{admit-leads}
 use Rattle.claims.proofs.Tallying.CloseFacts.{close-leads}
 
--- no more than 8,000,000 jobs can be admitted in a run
-at-most : (b : Board) → SoundFacts b → still b ≤ 8_000_000
-unfolding still most-in-slot last-slot
+-- no more jobs than a count may have can be admitted in a run
+at-most : (b : Board) → SoundFacts b → still b ≤ tally-most
+unfolding still tally-most
 at-most b f = omega (arith, f .from-first)
 
 -- events that lead from an empty board to another
@@ -36,18 +35,18 @@ module _ {b c : Board} {es : List Event} (s : sound b ≡ true) (empty : b .coun
   unfolding on-board how-many
   no-grade g = ap (how-many (λ (r : Job). eqb (r .grade) g)) (no-jobs b empty)
 
-  below : (k g : ℕ) → Cell k g → times k g es ≤ 8_000_000
+  below : (k g : ℕ) → Cell k g → times k g es ≤ tally-most
   below k g =
-      each-kind (λ n. times n g es ≤ 8_000_000)
+      each-kind (λ n. times n g es ≤ tally-most)
       (omega (arith, run .intake g, at-most b (facts b s)))
       (omega (arith, run .intake g, run .balance g, no-grade g, at-most b (facts b s)))
       (omega (arith, run .intake g, run .balance g, no-grade g, at-most b (facts b s))) k g
 
   pub fed-run : FedFacts zero-tally es
   unfolding zero-tally
-  fed-run = fed-facts zero-tally es (length-replicate {A = ℕ} 24 0) (run .cells) (λ k g h. omega (arith, below k g h, zero-count k g h))
+  fed-run = fed-facts zero-tally es (length-replicate {A = ℕ} (tally-kinds * tally-grades) 0) (run .cells) (λ k g h. omega (arith, below k g h, zero-count k g h))
 
-  in-balance : (g : ℕ) → g ≤ 7
+  in-balance : (g : ℕ) → g < tally-grades
       → count-at (fed zero-tally es) admitted-kind g ≡ count-at (fed zero-tally es) baked-kind g + count-at (fed zero-tally es) given-up-kind g + on-board g c
   in-balance g h =
       let fed-at : (k : ℕ) → Cell k g → count-at (fed zero-tally es) k g ≡ times k g es =

@@ -17,7 +17,7 @@ use Rattle.board.proofs.Tallies.CountAt.{Cell}
 use Rattle.board.proofs.Tallies.FedCounts.{times}
 use Rattle.claims.specs.Balance.{on-board}
 
--- how many jobs can still be admitted to a board: eight for each slot before 1,000,001, less those of its slot
+-- how many jobs can still be admitted to a board: the most in a slot for each slot up to the last, less those of its slot
 unfoldable pub still : Board → ℕ
 still b = most-in-slot * (suc last-slot - b .slot .0) - in-slot b
 

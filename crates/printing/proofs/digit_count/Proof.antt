@@ -4,7 +4,8 @@ use mathlib.Core.Path.{_≡_}
 use native.Mathlib.Omega.{arith}
 use lib.ListN.{length}
 use Rattle.lines.specs.Printing.{decimal}
-use Rattle.printing.proofs.Decimals.{length-one, length-more, some-digit, digits-20}
+use Rattle.printing.specs.Lines.{line-digits}
+use Rattle.printing.proofs.Decimals.{length-one, length-more, some-digit, few-digits}
 use Rattle.printing.proofs.digit_count.Statement.{statement}
 use Rattle.printing.proofs.digit_count.Tie as tie
 
@@ -18,7 +19,8 @@ loop-holds : tie.Need-loop-holds Inv-loop μ-loop
 loop-holds c = omega arith
 
 add-count : tie.Need-add-count Inv-loop μ-loop
-add-count c = omega (arith, some-digit (c .before .loop .left), digits-20 (c .before .before .args .n) (c .before .before .fits .n .fits))
+unfolding line-digits
+add-count c = omega (arith, some-digit (c .before .loop .left), few-digits (c .before .before .args .n) (c .before .before .fits .n .fits))
 
 loop-less : tie.Need-loop-less Inv-loop μ-loop
 loop-less c = omega arith
@@ -29,7 +31,7 @@ loop-again c = omega (arith, length-more (c .before .loop .left) (omega arith))
 returns : tie.Need-returns Inv-loop μ-loop
 returns c =
     omega
-    (arith, length-one (c .before .loop .left) (omega arith), digits-20 (c .before .before .args .n) (c .before .before .fits .n .fits))
+    (arith, length-one (c .before .loop .left) (omega arith), few-digits (c .before .before .args .n) (c .before .before .fits .n .fits))
 
 pub digit-count-spec : {M : Type 1} → statement M
 digit-count-spec =

@@ -9,20 +9,20 @@ use Rattle.printing.proofs.has_room.Tie as tie
 
 returns : tie.Need-returns
 unfolding line-fits room
-returns c = rw (lt-leb (c .before .args .len) 96 (omega arith))
+returns c = rw (lt-leb (c .before .args .len) room (omega arith))
 
 returns-2 : tie.Need-returns-2
 unfolding line-fits room
 returns-2 c =
     let a = c .before .before .args in
-    rw (le-leb (a .len) 96 (omega arith), lt-leb (a .at + a .len) (a .end) (omega arith))
+    rw (le-leb (a .len) room (omega arith), lt-leb (a .at + a .len) (a .end) (omega arith))
 
 returns-3 : tie.Need-returns-3
 unfolding line-fits room
 returns-3 c =
     let a = c .before .before .args in
     rw
-    (le-leb (a .len) 96 (omega arith))
+    (le-leb (a .len) room (omega arith))
     (same-test _ _
     (λ h. let m = leb-true (a .len) (a .end - a .at) h in le-leb (a .at + a .len) (a .end) (omega arith))
     (λ h. let m = leb-true (a .at + a .len) (a .end) h in le-leb (a .len) (a .end - a .at) (omega arith)))

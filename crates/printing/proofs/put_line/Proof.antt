@@ -7,8 +7,8 @@ use borrow.Author.Needs.{needs}
 use borrow.Author.Tests.{not-true, not-false}
 use lib.ListN.{length, getD, length-set}
 use lib.Seq.{paste, paste-zero, paste-suc}
-use Rattle.printing.specs.Lines.{with-line, end-after}
-use Rattle.printing.proofs.Known.{bytes-96}
+use Rattle.printing.specs.Lines.{room, with-line, end-after}
+use Rattle.printing.proofs.Known.{bytes-known}
 use Rattle.printing.proofs.Placed.{fits-apart, line-placed, end-placed}
 use Rattle.printing.proofs.Puts.{put-taken}
 use Rattle.printing.proofs.put_line.Statement.{statement}
@@ -17,7 +17,7 @@ use Rattle.printing.proofs.put_line.Tie as tie
 abbrev Inv-loop : tie.InvT-loop
 Inv-loop out₀ at l len i₀ out i =
     (i ≤ len)
-    × (len ≤ 96)
+    × (len ≤ room)
     × (at + len ≤ length out₀)
     × (length out ≡ length out₀)
     × (out ≡ paste out₀ at (l .bytes) i)
@@ -42,6 +42,7 @@ loop-holds c =
     (omega arith, f .0, f .1, refl, paste-zero (a .out .now) (a .at) (a .t3 .bytes))
 
 element-copy-out-out : tie.Need-element-copy-out-out Inv-loop μ-loop
+unfolding room
 element-copy-out-out c = search needs
 
 add-out : tie.Need-add-out Inv-loop μ-loop
@@ -63,7 +64,7 @@ loop-again c =
     let a = s .args in
     let v = l .loop .inv in
     let i = l .loop .i in
-    let b : length (a .t3 .bytes) ≡ 96 = bytes-96 (a .t3) _ (s .good .1 .1 .0) in (
+    let b : length (a .t3 .bytes) ≡ room = bytes-known (a .t3) _ (s .good .1 .1 .0) in (
       omega arith,
       v .1,
       v .2,
@@ -82,7 +83,7 @@ returns-2 c =
     let s = c .before .before .before .before .before in
     let a = s .args in
     let v = c .before .loop .inv in
-    let b : length (a .t3 .bytes) ≡ 96 = bytes-96 (a .t3) _ (s .good .1 .1 .0) in
+    let b : length (a .t3 .bytes) ≡ room = bytes-known (a .t3) _ (s .good .1 .1 .0) in
     let e : c .before .loop .i ≡ a .t3 .len = omega arith in (
       sym (end-placed (a .out .now) (a .at) (a .t3) (v .1) (v .2)),
       v .4

@@ -3,9 +3,8 @@ use mathlib.Core.Path.{_≡_, refl, sym, ap, _∙_, subst}
 use mathlib.Core.Bool.{true}
 use mathlib.Core.List.{[], _∷_}
 use mathlib.Core.Option.{some}
-use Prim.Native.Nat.{ℕ, _+_, _≤_}
+use Prim.Native.Nat.{ℕ}
 use native.Mathlib.Omega.{arith}
-use lib.ListN.{length}
 use borrow.Author.Tests.{eq-eqb, ne-eqb}
 use Rattle.lists.proofs.Tests.{cond-true, cond-false}
 use Rattle.board.specs.declared.Board.{Board}
@@ -24,10 +23,10 @@ use Rattle.lines.specs.Bytes.{Bytes, letter-A, letter-D, letter-R}
 use Rattle.lines.specs.Printing.{printed}
 use Rattle.lines.specs.Session.{Session, Answer, refused, answer-open, answer-admit}
 use Rattle.lines.proofs.NeverMet.MayMeet.{opened-shallow}
-use Rattle.printing.specs.Lines.{put}
+use Rattle.printing.specs.Lines.{room}
 use Rattle.program.specs.declared.session.Day.{Day}
 use Rattle.program.specs.declared.session.Said.{Said}
-use Rattle.program.specs.Days.{session-of, GoodDay, line-room, Given}
+use Rattle.program.specs.Days.{session-of, GoodDay, line-room, Given, PutWithin}
 
 -- a day with an open board, and where the output ends
 abbrev pub said : Board → Tally → ℕ → Said
@@ -36,24 +35,20 @@ said b t end = record { day = record { opened = true; board = b; tally = t }; at
 abbrev pub open-session : Board → Tally → Session
 open-session b t = record { board = some b; tally = t }
 
--- a line printed, which ends at `end`
-abbrev pub LineAt : (bs out : Bytes) (at end : ℕ) (out' : Bytes) → Type 0
-LineAt bs out at end out' = (end ≡ at + length bs) × (end ≤ at + 96) × (out' ≡ put out at bs)
-
 pub given-as : {a b : Answer} {out : Bytes} {at : ℕ} {r : Said} {out' : Bytes} → a ≡ b → Given b out at r out' → Given a out at r out'
 given-as {a} {b} {out} {at} {r} {out'} e g = subst (λ (x : Answer). Given x out at r out') (sym e) g
 
 module _ {out : Bytes} {at end : ℕ} {out' : Bytes} where
-  pub refusal-given : (day : Day) (i n : ℕ) → GoodDay day → LineAt (printed letter-R (i ∷ n ∷ [])) out at end out'
+  pub refusal-given : (day : Day) (i n : ℕ) → GoodDay day → PutWithin room (printed letter-R (i ∷ n ∷ [])) out at end out'
       → Given (refused (session-of day) i n) out at (record { day = day; at = end }) out'
   unfolding refused line-room
-  refusal-given day i n g p = record { good = g; session = refl; end = p .0; within = omega (arith, p .1); bytes = p .2 }
+  refusal-given day i n g p = record { good = g; session = refl; end = p .end; within = omega (arith, p .within); bytes = p .bytes }
 
   -- one line printed, and a board left open
-  line-given : (bs : Bytes) (b : Board) (t : Tally) → sound b ≡ true → LineAt bs out at end out'
+  line-given : (bs : Bytes) (b : Board) (t : Tally) → sound b ≡ true → PutWithin room bs out at end out'
       → Given (record { output = bs; session = open-session b t }) out at (said b t end) out'
   unfolding session-of GoodDay line-room
-  line-given bs b t s p = record { good = λ o. s; session = refl; end = p .0; within = omega (arith, p .1); bytes = p .2 }
+  line-given bs b t s p = record { good = λ o. s; session = refl; end = p .end; within = omega (arith, p .within); bytes = p .bytes }
 
 module _ (day : Day) (i d : ℕ) (o : Opened) (e : o ≡ opened d) where
   pub open-refused : (o .refusal ≡ 0 → ⊥) → answer-open (session-of day) i d ≡ refused (session-of day) i (o .refusal)
@@ -64,7 +59,7 @@ module _ (day : Day) (i d : ℕ) (o : Opened) (e : o ≡ opened d) where
   unfolding answer-open session-of
   open-answer h = rw (← e) (cond-true _ _ _ (eq-eqb (o .refusal) 0 h))
 
-  pub open-given : {out : Bytes} {at end : ℕ} {out' : Bytes} → o .refusal ≡ 0 → LineAt (printed letter-D (d ∷ [])) out at end out'
+  pub open-given : {out : Bytes} {at end : ℕ} {out' : Bytes} → o .refusal ≡ 0 → PutWithin room (printed letter-D (d ∷ [])) out at end out'
       → Given (answer-open (session-of day) i d) out at (said (o .board) (day .tally) end) out'
   open-given h p = given-as (open-answer h) (line-given _ (o .board) (day .tally) board-sound p)
     where
@@ -90,6 +85,6 @@ module _ (day : Day) (i t w g : ℕ) (a : Admitted) (e : a ≡ admitted (day .bo
   one-fed h = rw (← e) (ap (fed (day .tally)) (let-through (a .refusal) _ h))
 
   pub admit-given : {out : Bytes} {at end : ℕ} {out' : Bytes} (y : Tally) → sound (day .board) ≡ true → a .refusal ≡ 0
-      → LineAt (printed letter-A (t ∷ a .last .0 ∷ [])) out at end out' → y ≡ counted (day .tally) admitted-kind g .tally
+      → PutWithin room (printed letter-A (t ∷ a .last .0 ∷ [])) out at end out' → y ≡ counted (day .tally) admitted-kind g .tally
       → Given (answer-admit (session-of day) (day .board) i t w g) out at (said (a .board) y end) out'
   admit-given y s h p c = given-as (admit-answer h) (rw (c ∙ sym (one-fed h)) (line-given _ (a .board) _ (rw e (admitted-sound (day .board) t w g s)) p))

@@ -2,7 +2,7 @@
 use mathlib.Core.Path.{_≡_, sym, ap, _∙_}
 use mathlib.Core.Bool.{true}
 use mathlib.Core.List.{List, [], _∷_, _++_, map, map-map}
-use Prim.Native.Nat.{ℕ, _+_, _*_, _≤_}
+use Prim.Native.Nat.{ℕ, _*_, _≤_}
 use native.Mathlib.Omega.{arith}
 use lib.ListN.{length, length-append, length-map}
 use borrow.Author.Tests.{eq-eqb, ne-eqb}
@@ -20,11 +20,11 @@ use Rattle.board.proofs.Tallies.Fed.{let-through, fed-append}
 use Rattle.lines.specs.Bytes.{Bytes, letter-B}
 use Rattle.lines.specs.Printing.{printed}
 use Rattle.lines.specs.Session.{refused, printed-gone, answer-close}
-use Rattle.printing.specs.Lines.{put}
+use Rattle.printing.specs.Lines.{room}
 use Rattle.printing.proofs.Puts.{put-append}
 use Rattle.program.specs.declared.session.Day.{Day}
-use Rattle.program.specs.Days.{session-of, GoodDay, line-room, Given, printed-each}
-use Rattle.program.proofs.Answering.Answers.{said, open-session, LineAt, given-as}
+use Rattle.program.specs.Days.{session-of, GoodDay, line-room, Given, PutWithin, printed-each}
+use Rattle.program.proofs.Answering.Answers.{said, open-session, given-as}
 use Rattle.program.proofs.Answering.Entries.{few-given-up, printed-jobs}
 
 abbrev first-line : Board → Closed → Bytes
@@ -58,12 +58,12 @@ module _ (day : Day) (i : ℕ) (c : Closed) (e : c ≡ closed (day .board) place
   pub close-given : {out : Bytes} {at mid end : ℕ} {out₁ out' : Bytes} (T G : List ℕ) (y : Tally)
       → sound (day .board) ≡ true → c .refusal ≡ 0 → at ≤ length out
       → T ≡ map (λ (r : Job). r .ticket) (given-up (day .board)) → G ≡ map (λ (r : Job). r .grade) (given-up (day .board))
-      → LineAt (first-line (day .board) c) out at mid out₁
-      → (end ≡ mid + length (printed-each (day .board .slot .0) T G)) × (end ≤ mid + length T * 96) × (out' ≡ put out₁ mid (printed-each (day .board .slot .0) T G))
+      → PutWithin room (first-line (day .board) c) out at mid out₁
+      → PutWithin (length T * room) (printed-each (day .board .slot .0) T G) out₁ mid end out'
       → y ≡ fed (fed (day .tally) (baked-events (c .ticket) (c .grade))) (map (event given-up-kind) G)
       → Given (answer-close (session-of day) (day .board) i) out at (said (c .board) y end) out'
   unfolding session-of GoodDay line-room
-  close-given {out} {at} {mid} {end} {out₁} {out'} T G y s h room p q l m z =
+  close-given {out} {at} {mid} {end} {out₁} {out'} T G y s h start p q l m z =
       let k = day .board .slot .0 in
       let A = given-up (day .board) in
       let gone : printed-each k T G ≡ printed-gone k A = rw (p, q) (printed-jobs k A) in
@@ -71,7 +71,7 @@ module _ (day : Day) (i : ℕ) (c : Closed) (e : c ≡ closed (day .board) place
       (record {
         good = λ o. rw e (closed-sound (day .board) places-held s);
         session = ap (open-session (c .board)) (z ∙ all-fed h G q);
-        end = omega (arith, l .0, m .0, ap length gone, length-append (first-line (day .board) c) (printed-gone k A));
-        within = omega (arith, l .1, m .1, ap length p, length-map A (λ (r : Job). r .ticket), few-given-up (day .board) s);
-        bytes = m .2 ∙ rw (gone, l .2, l .0) (put-append out at (first-line (day .board) c) (printed-gone k A) room);
+        end = omega (arith, l .end, m .end, ap length gone, length-append (first-line (day .board) c) (printed-gone k A));
+        within = omega (arith, l .within, m .within, ap length p, length-map A (λ (r : Job). r .ticket), few-given-up (day .board) s);
+        bytes = m .bytes ∙ rw (gone, l .bytes, l .end) (put-append out at (first-line (day .board) c) (printed-gone k A) start);
       })

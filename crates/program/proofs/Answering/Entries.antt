@@ -17,7 +17,7 @@ use Rattle.board.specs.Limits.{places-held}
 use Rattle.board.specs.Held.{held}
 use Rattle.board.specs.Sound.{sound}
 use Rattle.board.specs.Close.{given-up-with, bakes, given-up, close-number, closed-with, closed}
-use Rattle.board.specs.Lent.{Lent, InOrder, LentInOrder}
+use Rattle.board.specs.Lent.{Lent}
 use Rattle.board.specs.Tally.{counted}
 use Rattle.board.specs.Events.{event, fed}
 use Rattle.board.proofs.Soundness.Apart.{facts}
@@ -25,6 +25,7 @@ use Rattle.board.proofs.Soundness.HeldCount.{held-count}
 use Rattle.lines.specs.Bytes.{letter-G}
 use Rattle.lines.specs.Printing.{printed}
 use Rattle.lines.specs.Session.{printed-gone}
+use Rattle.calls.specs.Closings.{InOrder, LentInOrder, ClosedInOrder}
 use Rattle.program.specs.Days.{printed-each}
 
 module _ (k : ℕ) (T G : List ℕ) (i : ℕ) where
@@ -54,8 +55,8 @@ printed-jobs k [] = refl
 printed-jobs k (r ∷ A) = ap (λ bs. printed letter-G (k ∷ r .ticket ∷ r .grade ∷ []) ++ bs) (printed-jobs k A)
 
 -- no more jobs than a board holds
-pub few-given-up : (b : Board) → sound b ≡ true → length (given-up b) ≤ 256
-unfolding given-up given-up-with places-held
+pub few-given-up : (b : Board) → sound b ≡ true → length (given-up b) ≤ places-held
+unfolding given-up given-up-with
 few-given-up b s =
     let f = facts b s in
     let p = expires (b .slot .0) (ticket-of (bakes b)) in
@@ -76,19 +77,19 @@ begins f A rest l n h e =
 
 -- the jobs given up are the first n entries of the lists
 pub record Entered (b : Board) (n : ℕ) (T G : List ℕ) : Type 0 where
-  pub few : n ≤ 256
+  pub few : n ≤ places-held
   pub in-tickets : n ≤ length T
   pub in-grades : n ≤ length G
   pub tickets : take n T ≡ map (λ (r : Job). r .ticket) (given-up b)
   pub grades : take n G ≡ map (λ (r : Job). r .grade) (given-up b)
 
-pub entered : (b : Board) (lent : ℕ) (before after : Lent) (c : Closed) → sound b ≡ true → c ≡ closed b lent → c .refusal ≡ 0
-    → LentInOrder (c .refusal) (given-up b) before after → Entered b (c .expired) (after .tickets) (after .grades)
+pub entered : (b : Board) (before after : Lent) (c : Closed) → sound b ≡ true → ClosedInOrder b before after c → c .refusal ≡ 0
+    → Entered b (c .expired) (after .tickets) (after .grades)
 unfolding LentInOrder
-entered b lent before after c s e h l =
+entered b before after c s m h =
     let A = given-up b in
-    let n = given-up-number b lent c e h in
-    let o : InOrder A before after = subst (λ (k : ℕ). LentInOrder k A before after) h l in
+    let n = given-up-number b _ c (m .answer) h in
+    let o : InOrder A before after = subst (λ (k : ℕ). LentInOrder k A before after) h (m .order) in
     let t = begins (λ (r : Job). r .ticket) A _ (after .tickets) (c .expired) n (o .tickets) in
     let g = begins (λ (r : Job). r .grade) A _ (after .grades) (c .expired) n (o .grades) in
     record { few = omega (arith, n, few-given-up b s); in-tickets = t .0; in-grades = g .0; tickets = t .1; grades = g .1 }

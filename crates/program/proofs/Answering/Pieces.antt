@@ -6,19 +6,20 @@ use native.Mathlib.Omega.{arith}
 use native.Mathlib.Nat.{add-zero}
 use lib.ListN.{length, length-append, take-append-drop}
 use Rattle.lines.specs.Bytes.{Bytes}
-use Rattle.printing.specs.Lines.{put, line-of, with-line, end-after}
+use Rattle.printing.specs.Lines.{room, put, line-of, with-line, end-after}
 use Rattle.printing.specs.declared.Line.{Line}
 use Rattle.printing.proofs.Puts.{put-append}
 use Rattle.printing.proofs.Placed.{whole-placed, whole-end}
+use Rattle.program.specs.Days.{PutWithin}
 
 -- a line made and put
-pub line-said : (out : Bytes) (at : ℕ) (bs : Bytes) (l : Line) (end : ℕ) (out' : Bytes) → at + 96 ≤ length out → l ≡ line-of bs → l .len ≤ 96
-    → end ≡ end-after out at l → out' ≡ with-line out at l → (end ≡ at + length bs) × (end ≤ at + 96) × (out' ≡ put out at bs)
+pub line-said : (out : Bytes) (at : ℕ) (bs : Bytes) (l : Line) (end : ℕ) (out' : Bytes) → at + room ≤ length out → l ≡ line-of bs → l .len ≤ room
+    → end ≡ end-after out at l → out' ≡ with-line out at l → PutWithin room bs out at end out'
 unfolding line-of
-line-said out at bs l end out' room e h p q =
-    let short : length bs ≤ 96 = rw e at h in
+line-said out at bs l end out' fits e h p q =
+    let short : length bs ≤ room = rw e at h in
     let end-is : end ≡ at + length bs = rw e at p ∙ whole-end out at bs short (omega arith) in
-    (end-is, omega arith, rw e at q ∙ whole-placed out at bs short (omega arith))
+    record { end = end-is; within = omega arith; bytes = rw e at q ∙ whole-placed out at bs short (omega arith) }
 
 -- of the bytes `all`, to be put at `at` in `out`, the bytes `rest` are left, to be put at `here` in `now`
 pub record Left (all out : Bytes) (at : ℕ) (rest now : Bytes) (here : ℕ) : Type 0 where

@@ -2,7 +2,7 @@
 use mathlib.Core.Path.{sym, _∙_}
 use native.Mathlib.Omega.{arith}
 use borrow.Author.Needs.{needs}
-use Rattle.board.specs.Tally.{cell, count-at}
+use Rattle.board.specs.Tally.{tally-kinds, tally-grades, tally-most, cell, count-at}
 use Rattle.board.proofs.Tallies.CountAt.{Cell, taken}
 use Rattle.tally.proofs.Answers.{inside, no-such-count, count-full}
 use Rattle.tally.proofs.count_event.Statement.{statement}
@@ -34,20 +34,18 @@ mul-at c = omega (arith, at c)
 add-at : tie.Need-add-at
 add-at c = omega (arith, at c)
 
-cast-at : tie.Need-cast-at
-cast-at c = search needs
-
 mul-n : tie.Need-mul-n
 mul-n c = search needs
 
 element-copy-out-n : tie.Need-element-copy-out-n
+unfolding tally-kinds tally-grades
 element-copy-out-n c = omega (arith, at c)
 
 refused-requires-2 : tie.Need-refused-requires-2
 refused-requires-2 c κs = search needs
 
 returns-2 : tie.Need-returns-2
-unfolding count-at cell
+unfolding count-at cell tally-grades tally-most
 returns-2 c =
     let a = c .before .before .before .before .before .args in
     c .refused2 .ensures ∙ sym (count-full (a .t1) (a .kind) (a .grade) (at (c .before .before .before)) (omega arith))
@@ -59,10 +57,11 @@ mul-t : tie.Need-mul-t
 mul-t c = search needs
 
 element-write-t : tie.Need-element-write-t
+unfolding tally-kinds tally-grades
 element-write-t c = omega (arith, at (c .before .before))
 
 returns-3 : tie.Need-returns-3
-unfolding count-at cell
+unfolding count-at cell tally-grades tally-most
 returns-3 c =
     let a = c .before .before .before .before .args in
     sym (taken (a .t1) (a .kind) (a .grade) (at (c .before .before)) (omega arith))
@@ -76,7 +75,6 @@ count-event-spec =
     returns
     mul-at
     add-at
-    cast-at
     mul-n
     element-copy-out-n
     refused-requires-2

@@ -7,9 +7,10 @@ use native.Mathlib.Omega.{arith}
 use borrow.Author.Needs.{needs}
 use borrow.Author.Tests.{not-true, not-false}
 use lib.ListN.{length}
-use lib.Pow.{pow-mono}
 use Rattle.board.specs.Limits.{deepest}
+use Rattle.board.specs.Tally.{tally-grades}
 use Rattle.board.proofs.Soundness.Apart.{facts}
+use Rattle.board.proofs.Tallies.CountAt.{grades-counted}
 use Rattle.lines.specs.Bytes.{Bytes}
 use Rattle.lines.specs.Session.{printed-tally}
 use Rattle.lines.specs.Machine.{printed-at-end}
@@ -75,7 +76,7 @@ say-tally-requires c κs =
     let g = c .before .before in
     let r = at-last (g .before) in
     let s = r .before .before .before in
-    let few : g .grades .result ≤ 8 = omega (arith, grades g, pow-mono (shallow (g .before))) in
+    let few : g .grades .result ≤ tally-grades = omega (arith, grades g, grades-counted (shallow (g .before))) in
     (few, omega (arith, r .last-line .ensures .within, r .last-line .kept .1 .0, s .pre .1 .1))
 
 same-length-2 : tie.Need-same-length-2

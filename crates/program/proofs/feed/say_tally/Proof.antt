@@ -6,11 +6,12 @@ use native.Mathlib.Nat.{sub-zero}
 use native.Mathlib.Omega.{arith}
 use borrow.Author.Needs.{needs}
 use lib.ListN.{length}
+use Rattle.board.specs.Tally.{tally-kinds}
 use Rattle.board.specs.Events.{admitted-kind, baked-kind, given-up-kind}
 use Rattle.lines.specs.Bytes.{Bytes, letter-T}
 use Rattle.lines.specs.Printing.{printed}
 use Rattle.lines.specs.Session.{tally-line, printed-tally}
-use Rattle.printing.specs.Lines.{put}
+use Rattle.printing.specs.Lines.{room, put}
 use Rattle.program.proofs.Answering.Pieces.{Left, all-left, fewer-left, none-left}
 use Rattle.program.proofs.Feeding.Ending.{tally-next, tally-done}
 use Rattle.program.proofs.feed.say_tally.Statement.{statement}
@@ -19,7 +20,7 @@ use Rattle.program.proofs.feed.say_tally.Tie as tie
 abbrev Inv-loop : tie.InvT-loop
 Inv-loop t grades out₀ at end₀ g₀ out end g =
     (g ≤ grades)
-    × (end ≤ at + 96 * g)
+    × (end ≤ at + room * g)
     × (length out ≡ length out₀)
     × Left (printed-tally grades 0 t) out₀ at (printed-tally (grades - g) g t) out end
 
@@ -27,18 +28,26 @@ abbrev μ-loop : tie.MeasureT-loop
 μ-loop t grades out₀ at end₀ g₀ out end g = grades - g
 
 loop-holds : tie.Need-loop-holds Inv-loop μ-loop
+unfolding room
 loop-holds c = (omega arith, omega arith, refl, rw sub-zero (all-left _ _ _))
 
 count-of-requires : tie.Need-count-of-requires Inv-loop μ-loop
+unfolding tally-kinds
 count-of-requires c κs = search needs
 
 count-of-requires-2 : tie.Need-count-of-requires-2 Inv-loop μ-loop
+unfolding tally-kinds
 count-of-requires-2 c κs = search needs
 
 count-of-requires-3 : tie.Need-count-of-requires-3 Inv-loop μ-loop
+unfolding tally-kinds
 count-of-requires-3 c κs = search needs
 
+slice-aggregate-say : tie.Need-slice-aggregate-say Inv-loop μ-loop
+slice-aggregate-say c = search needs
+
 say-requires : tie.Need-say-requires Inv-loop μ-loop
+unfolding room
 say-requires c κs = search needs
 
 add-g : tie.Need-add-g Inv-loop μ-loop
@@ -48,10 +57,10 @@ loop-less : tie.Need-loop-less Inv-loop μ-loop
 loop-less c = search needs
 
 loop-again : tie.Need-loop-again Inv-loop μ-loop
-unfolding letter-T tally-line admitted-kind baked-kind given-up-kind
+unfolding letter-T room tally-line admitted-kind baked-kind given-up-kind
 loop-again c =
     let p = c .before .before .say in
-    let q = c .before .before .before .before in
+    let q = c .before .before .before .before .before in
     let t = q .before .before .before in
     let s = t .before .before .before in
     let a = s .args in
@@ -68,14 +77,15 @@ loop-again c =
       omega arith,
       p .kept .0 ∙ v .2,
       fewer-left line rest (l .out) (l .end) _ _ (rw n at (v .3)) (omega arith)
-          (p .ensures .0 ∙ ap (λ (x : Bytes). l .end + length x) said)
-          (p .ensures .2 ∙ ap (put (l .out) (l .end)) said),
+          (p .ensures .end ∙ ap (λ (x : Bytes). l .end + length x) said)
+          (p .ensures .bytes ∙ ap (put (l .out) (l .end)) said),
     )
 
 same-length : tie.Need-same-length Inv-loop μ-loop
 same-length c = search needs
 
 returns : tie.Need-returns Inv-loop μ-loop
+unfolding room
 returns c =
     let s = c .before .before .before in
     let a = s .args in
@@ -93,6 +103,7 @@ say-tally-spec =
     count-of-requires
     count-of-requires-2
     count-of-requires-3
+    slice-aggregate-say
     say-requires
     add-g
     loop-less

@@ -29,7 +29,7 @@ abbrev closing : tie.Else1 → tie.After-close-in-limits
 closing e = e .before .before .before .before .before
 
 abbrev going : tie.After-slice-known3 → tie.Else1
-going d = d .before .before .before .before .before .before .before .before .before
+going d = d .before .before .before .before .before .before .before .before .before .before
 
 board-sound : (s : tie.Start) → sound (s .args .day .board) ≡ true
 unfolding GoodDay
@@ -38,15 +38,14 @@ board-sound s = s .pre .0 (s .pre .1 .0)
 -- the lists that are lent have an entry for every place, and on the open board, which is sound, the call is 01's
 closed-full : (k : tie.After-close-in-limits) → k .close-in-limits .result ≡ closed (entry k .args .day .board) places-held
 unfolding entries places-held
-closed-full k = let e = k .close-in-limits .ensures in meets-on-sound _ _ _ _ (board-sound (entry k)) (record { answer = e .0; lent = e .1 }) .answer
+closed-full k = meets-on-sound _ _ _ _ (board-sound (entry k)) (k .close-in-limits .ensures) .answer
 
 listed : (d : tie.After-slice-known3) → let k = closing (going d) in
     Entered (entry k .args .day .board) (k .close-in-limits .result .expired) (k .close-in-limits .last .1 .0) (k .close-in-limits .last .1 .1 .0)
 listed d =
     let e = going d in
     let k = closing e in
-    let m = meets-on-sound _ _ _ _ (board-sound (entry k)) (record { answer = k .close-in-limits .ensures .0; lent = k .close-in-limits .ensures .1 }) in
-    entered _ _ _ _ (k .close-in-limits .result) (board-sound (entry k)) (m .answer) (e .if1 .left) (m .order)
+    entered _ _ _ (k .close-in-limits .result) (board-sound (entry k)) (meets-on-sound _ _ _ _ (board-sound (entry k)) (k .close-in-limits .ensures)) (e .if1 .left)
 
 slice-aggregate-close-in-limits : tie.Need-slice-aggregate-close-in-limits
 slice-aggregate-close-in-limits c = search needs
@@ -75,9 +74,6 @@ returns c =
 cast-n : tie.Need-cast-n
 cast-n c = search needs
 
-cast-t29 : tie.Need-cast-t29
-cast-t29 c = search needs
-
 cast-t30 : tie.Need-cast-t30
 cast-t30 c = search needs
 
@@ -87,9 +83,15 @@ cast-t31 c = search needs
 cast-t32 : tie.Need-cast-t32
 cast-t32 c = search needs
 
+cast-t33 : tie.Need-cast-t33
+cast-t33 c = search needs
+
+slice-aggregate-say : tie.Need-slice-aggregate-say
+slice-aggregate-say c = search needs
+
 say-requires : tie.Need-say-requires
 unfolding line-room
-say-requires c κs = omega (arith, entry (closing (c .before .before .before .before .before .before)) .pre .1 .1)
+say-requires c κs = omega (arith, entry (closing (c .before .before .before .before .before .before .before)) .pre .1 .1)
 
 array-share-prefix-tickets : tie.Need-array-share-prefix-tickets
 array-share-prefix-tickets c = listed c .in-tickets
@@ -111,7 +113,7 @@ say-gone-requires c κs =
     let n = listed d in
     let t = length-take-le _ _ (n .in-tickets) in
     let g = length-take-le _ _ (n .in-grades) in
-    (g ∙ sym t, omega (arith, t, n .few, s .say .ensures .1, s .say .kept .0, entry (closing (going d)) .pre .1 .1))
+    (g ∙ sym t, omega (arith, t, n .few, s .say .ensures .within, s .say .kept .0, entry (closing (going d)) .pre .1 .1))
 
 count-baked-requires : tie.Need-count-baked-requires
 count-baked-requires c κs = search needs
@@ -156,10 +158,11 @@ close-line-spec =
     same-length
     returns
     cast-n
-    cast-t29
     cast-t30
     cast-t31
     cast-t32
+    cast-t33
+    slice-aggregate-say
     say-requires
     array-share-prefix-tickets
     slice-aggregate-say-gone

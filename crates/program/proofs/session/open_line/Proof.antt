@@ -21,6 +21,9 @@ returns c =
     let o = t .before .before in
     given-as (open-refused _ _ _ (o .open .result) (o .open .ensures) (t .if1 .taken)) (c .before .before .refuse .ensures)
 
+slice-aggregate-say : tie.Need-slice-aggregate-say
+slice-aggregate-say c = search needs
+
 say-requires : tie.Need-say-requires
 unfolding line-room
 say-requires c κs = search needs
@@ -32,7 +35,7 @@ returns-2 : tie.Need-returns-2
 unfolding letter-D
 returns-2 c =
     let s = c .before .before .before .before in
-    let e = s .before .before in
+    let e = s .before .before .before in
     let o = e .before .before in
     open-given _ _ _ (o .open .result) (o .open .ensures) (e .if1 .left) (s .say .ensures)
 
@@ -44,6 +47,7 @@ open-line-spec =
     refuse-requires
     same-length
     returns
+    slice-aggregate-say
     say-requires
     same-length-2
     returns-2)

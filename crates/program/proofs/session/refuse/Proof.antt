@@ -6,6 +6,9 @@ use Rattle.program.proofs.Answering.Answers.{refusal-given}
 use Rattle.program.proofs.session.refuse.Statement.{statement}
 use Rattle.program.proofs.session.refuse.Tie as tie
 
+slice-aggregate-say : tie.Need-slice-aggregate-say
+slice-aggregate-say c = search needs
+
 say-requires : tie.Need-say-requires
 unfolding line-room
 say-requires c κs = search needs
@@ -15,7 +18,7 @@ same-length c = search needs
 
 returns : tie.Need-returns
 unfolding letter-R
-returns c = refusal-given _ _ _ (c .before .before .before .before .before .pre .0) (c .before .before .say .ensures)
+returns c = refusal-given _ _ _ (c .before .before .before .before .before .before .pre .0) (c .before .before .say .ensures)
 
 pub refuse-spec : {M : Type 1} → statement M
-refuse-spec = tie.close (tie.spec say-requires same-length returns)
+refuse-spec = tie.close (tie.spec slice-aggregate-say say-requires same-length returns)

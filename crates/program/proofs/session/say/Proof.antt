@@ -1,5 +1,11 @@
 -- `program::session::say`: a line has room. Assumes nothing.
+use mathlib.Core.List.{List}
+use mathlib.Core.Path.{ap, _∙_}
+use Prim.Native.Nat.{ℕ}
 use borrow.Author.Needs.{needs}
+use lib.Seq.{take-all}
+use Rattle.lines.specs.Printing.{printed}
+use Rattle.printing.specs.Lines.{line-numbers, line-of}
 use Rattle.program.proofs.Answering.Pieces.{line-said}
 use Rattle.program.proofs.session.say.Statement.{statement}
 use Rattle.program.proofs.session.say.Tie as tie
@@ -17,7 +23,9 @@ returns : tie.Need-returns
 returns c =
     let l = c .before .before in
     let p = l .before .before in
-    line-said _ _ _ _ _ _ (p .before .before .pre) (p .print-line .ensures .0) (p .print-line .ensures .1) (l .put-line .ensures .0) (l .put-line .ensures .1)
+    let s = p .before .before .before in
+    let all = ap (λ (ns : List ℕ). line-of (printed (s .args .letter) ns)) (take-all line-numbers (s .args .numbers .now) (s .pre .0)) in
+    line-said _ _ _ _ _ _ (s .pre .1) (p .print-line .ensures .0 ∙ all) (p .print-line .ensures .1) (l .put-line .ensures .0) (l .put-line .ensures .1)
 
 pub say-spec : {M : Type 1} → statement M
 say-spec = tie.close (tie.spec print-line-requires put-line-requires same-length returns)

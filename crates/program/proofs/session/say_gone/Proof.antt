@@ -7,6 +7,7 @@ use borrow.Author.Needs.{needs}
 use lib.ListN.{length, getD, drop}
 use Rattle.lines.specs.Bytes.{letter-G}
 use Rattle.lines.specs.Printing.{printed}
+use Rattle.printing.specs.Lines.{room}
 use Rattle.program.specs.Days.{printed-each}
 use Rattle.program.proofs.Answering.Pieces.{Left, all-left, fewer-left, none-left}
 use Rattle.program.proofs.Answering.Entries.{next-line, no-line}
@@ -16,7 +17,7 @@ use Rattle.program.proofs.session.say_gone.Tie as tie
 abbrev Inv-loop : tie.InvT-loop
 Inv-loop slot tickets grades out₀ at end₀ i₀ out end i =
     (i ≤ length tickets)
-    × (end ≤ at + i * 96)
+    × (end ≤ at + i * room)
     × (length out ≡ length out₀)
     × Left (printed-each slot tickets grades) out₀ at (printed-each slot (drop i tickets) (drop i grades)) out end
 
@@ -24,24 +25,29 @@ abbrev μ-loop : tie.MeasureT-loop
 μ-loop slot tickets grades out₀ at end₀ i₀ out end i = length tickets - i
 
 loop-holds : tie.Need-loop-holds Inv-loop μ-loop
+unfolding room
 loop-holds c = (omega arith, omega arith, refl, all-left _ _ _)
 
 mul-t8 : tie.Need-mul-t8 Inv-loop μ-loop
 mul-t8 c = search needs
 
-shared-slice-read-t14 : tie.Need-shared-slice-read-t14 Inv-loop μ-loop
-shared-slice-read-t14 c = search needs
+shared-slice-read-t15 : tie.Need-shared-slice-read-t15 Inv-loop μ-loop
+shared-slice-read-t15 c = search needs
 
-cast-t15 : tie.Need-cast-t15 Inv-loop μ-loop
-cast-t15 c = omega (arith, c .shared-slice-known3 .given (c .before .before .before .loop .i))
+cast-t16 : tie.Need-cast-t16 Inv-loop μ-loop
+cast-t16 c = omega (arith, c .shared-slice-known3 .given (c .before .before .before .loop .i))
 
-shared-slice-read-t17 : tie.Need-shared-slice-read-t17 Inv-loop μ-loop
-shared-slice-read-t17 c = search needs
+shared-slice-read-t18 : tie.Need-shared-slice-read-t18 Inv-loop μ-loop
+shared-slice-read-t18 c = search needs
 
-cast-t18 : tie.Need-cast-t18 Inv-loop μ-loop
-cast-t18 c = omega (arith, c .shared-slice-known4 .given (c .before .before .before .before .loop .i))
+cast-t19 : tie.Need-cast-t19 Inv-loop μ-loop
+cast-t19 c = omega (arith, c .shared-slice-known4 .given (c .before .before .before .before .loop .i))
+
+slice-aggregate-say : tie.Need-slice-aggregate-say Inv-loop μ-loop
+slice-aggregate-say c = search needs
 
 say-requires : tie.Need-say-requires Inv-loop μ-loop
+unfolding room
 say-requires c κs = search needs
 
 add-i : tie.Need-add-i Inv-loop μ-loop
@@ -51,10 +57,10 @@ loop-less : tie.Need-loop-less Inv-loop μ-loop
 loop-less c = search needs
 
 loop-again : tie.Need-loop-again Inv-loop μ-loop
-unfolding letter-G
+unfolding letter-G room
 loop-again c =
     let s = c .before .before in
-    let l = s .before .before .before .before .before in
+    let l = s .before .before .before .before .before .before in
     let a = l .before .before .before .before .args in
     let v = l .loop .inv in
     let i = l .loop .i in
@@ -64,17 +70,18 @@ loop-again c =
       omega arith,
       omega arith,
       omega arith,
-      fewer-left (printed letter-G (a .slot ∷ getD T i 0 ∷ getD G i 0 ∷ [])) _ _ _ _ _ (rw e at (v .3)) (omega arith) (s .say .ensures .0) (s .say .ensures .2),
+      fewer-left (printed letter-G (a .slot ∷ getD T i 0 ∷ getD G i 0 ∷ [])) _ _ _ _ _ (rw e at (v .3)) (omega arith) (s .say .ensures .end) (s .say .ensures .bytes),
     )
 
 same-length : tie.Need-same-length Inv-loop μ-loop
 same-length c = search needs
 
 returns : tie.Need-returns Inv-loop μ-loop
+unfolding room
 returns c =
     let l = c .before in
     let n = none-left _ _ (rw (no-line _ _ _ _ (c .loop-test .left)) at (l .loop .inv .3)) in
-    (n .0, omega arith, n .1)
+    record { end = n .0; within = omega arith; bytes = n .1 }
 
 pub say-gone-spec : {M : Type 1} → statement M
 say-gone-spec =
@@ -84,10 +91,11 @@ say-gone-spec =
     μ-loop
     loop-holds
     mul-t8
-    shared-slice-read-t14
-    cast-t15
-    shared-slice-read-t17
-    cast-t18
+    shared-slice-read-t15
+    cast-t16
+    shared-slice-read-t18
+    cast-t19
+    slice-aggregate-say
     say-requires
     add-i
     loop-less
