@@ -1,12 +1,13 @@
 -- The kinds of events are those that have a count.
 use mathlib.Core.Path.{_≡_, sym, subst}
-use Prim.Native.Nat.{ℕ, zero, suc, _≤_}
+use Prim.Native.Nat.{ℕ, zero, suc, _<_}
 use native.Mathlib.Omega.{arith}
+use Rattle.board.specs.Tally.{tally-kinds, tally-grades}
 use Rattle.board.specs.Events.{admitted-kind, baked-kind, given-up-kind, Event}
 use Rattle.board.proofs.Tallies.CountAt.{Cell}
 
 pub each-kind : (P : ℕ → Type 0) → P admitted-kind → P baked-kind → P given-up-kind → (k g : ℕ) → Cell k g → P k
-unfolding admitted-kind baked-kind given-up-kind
+unfolding admitted-kind baked-kind given-up-kind tally-kinds
 each-kind P a b u zero g c = a
 each-kind P a b u (suc zero) g c = b
 each-kind P a b u (suc (suc zero)) g c = u
@@ -15,15 +16,15 @@ each-kind P a b u (suc (suc (suc k))) g c = absurd (omega (arith, c .kind))
 pub same-cell : {e x : Event} → e ≡ x → Cell (x .kind) (x .grade) → Cell (e .kind) (e .grade)
 same-cell q c = subst (λ (y : Event). Cell (y .kind) (y .grade)) (sym q) c
 
-module _ {g : ℕ} (h : g ≤ 7) where
+module _ {g : ℕ} (h : g < tally-grades) where
   pub admitted-cell : Cell admitted-kind g
-  unfolding admitted-kind
+  unfolding admitted-kind tally-kinds
   admitted-cell = record { kind = omega arith; grade = h }
 
   pub baked-cell : Cell baked-kind g
-  unfolding baked-kind
+  unfolding baked-kind tally-kinds
   baked-cell = record { kind = omega arith; grade = h }
 
   pub given-up-cell : Cell given-up-kind g
-  unfolding given-up-kind
+  unfolding given-up-kind tally-kinds
   given-up-cell = record { kind = omega arith; grade = h }
