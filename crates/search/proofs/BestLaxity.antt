@@ -1,6 +1,6 @@
 -- The search for the tight laxity, job by job: the smallest excess so far, and the least laxity that has it.
 use mathlib.Core.Path.{_≡_, refl, sym, ap, ap₂, _∙_, subst}
-use mathlib.Core.Bool.{Bool, true, false, not, _&&_, _||_, cond}
+use mathlib.Core.Bool.{Bool, true, false, not, _||_, cond}
 use mathlib.Core.Logic.{_⊎_, inl, inr, ⊎-elim}
 use mathlib.Core.List.{List, [], _∷_, _++_, List·Memᴰ, List·Memᴰ·head, List·Memᴰ·not-nil, List·Memᴰ·append-cases, List·Memᴰ·eq-of-singleton, Memᴰ·append-left, Memᴰ·append-right}
 use Prim.Native.Nat.{ℕ, _+_, _≤_, _<_}
@@ -20,18 +20,16 @@ use Rattle.rule.proofs.Tight.Laxity.{tight-laxity-is, tight-laxity-only}
 use Rattle.board.specs.Limits.{longest-laxity}
 use Rattle.board.specs.declared.Laxity.{Laxity}
 use Rattle.search.specs.declared.tight.Best.{Best}
+use Rattle.search.specs.Inside.{comes-before}
 
--- the test of `is_better`: a where the new excess is at most the old one, c where the old is at most the new one
-abbrev chosen : (a c : Bool) (l m : ℕ) → Bool
-chosen a c l m = a && (not c || ltb l m)
-
-yes-chosen : (a c l m : ℕ) → chosen (leb a c) (leb c a) l m ≡ true → (a < c) ⊎ ((a ≤ c) × (l < m))
+-- a new laxity and the best so far, compared by sums
+yes-chosen : (a c l m : ℕ) → comes-before (leb a c) (leb c a) l m ≡ true → (a < c) ⊎ ((a ≤ c) × (l < m))
 yes-chosen a c l m h =
     let k = leb-true a c (and-left (leb a c) (not (leb c a) || ltb l m) h) in
     ⊎-elim (λ n. inl (leb-false c a (not-true (leb c a) n))) (λ n. inr (k, ltb-true l m n))
     (or-cases (not (leb c a)) (ltb l m) (and-right (leb a c) (not (leb c a) || ltb l m) h))
 
-not-chosen : (a c l m : ℕ) → chosen (leb a c) (leb c a) l m ≡ false → (c < a) ⊎ ((c ≤ a) × (m ≤ l))
+not-chosen : (a c l m : ℕ) → comes-before (leb a c) (leb c a) l m ≡ false → (c < a) ⊎ ((c ≤ a) × (m ≤ l))
 not-chosen a c l m h =
     ⊎-elim (λ n. inl (leb-false a c n))
     (λ n. let o = or-false (not (leb c a)) (ltb l m) n in inr (leb-true c a (not-false (leb c a) (o .0)), ltb-false l m (o .1)))
@@ -104,16 +102,16 @@ module _ (now : ℕ) (A : List Job) (r : Job) (m : List·Memᴰ r A) (l : Laxity
         (each {P = AtMost now A (best .laxity .0)} L o (⊎-elim (λ k. omega arith) (λ k. omega arith) c))
         (each {P = First now A (best .laxity .0)} L f (λ b. ⊎-elim (λ k. omega arith) (λ k. absurd (omega arith)) c))
 
-    either : BestOf now A (L ++ (r ∷ [])) (cond (chosen (leZ x (best .excess)) (leZ (best .excess) x) (l .0) (best .laxity .0)) (record { excess = x; laxity = l }) best)
+    either : BestOf now A (L ++ (r ∷ [])) (cond (comes-before (leZ x (best .excess)) (leZ (best .excess) x) (l .0) (best .laxity .0)) (record { excess = x; laxity = l }) best)
     unfolding new-sum old-sum
     either = go (test t)
       where
         t : Bool
-        t = chosen (leZ x (best .excess)) (leZ (best .excess) x) (l .0) (best .laxity .0)
+        t = comes-before (leZ x (best .excess)) (leZ (best .excess) x) (l .0) (best .laxity .0)
 
-        sums : t ≡ chosen (leb new-sum old-sum) (leb old-sum new-sum) (l .0) (best .laxity .0)
+        sums : t ≡ comes-before (leb new-sum old-sum) (leb old-sum new-sum) (l .0) (best .laxity .0)
         sums =
-            ap₂ (λ a c. chosen a c (l .0) (best .laxity .0)) (ap₂ leZ of y ∙ excess-order now A (l .0) (best .laxity .0))
+            ap₂ (λ a c. comes-before a c (l .0) (best .laxity .0)) (ap₂ leZ of y ∙ excess-order now A (l .0) (best .laxity .0))
             (ap₂ leZ y of ∙ excess-order now A (best .laxity .0) (l .0))
 
         go : (t ≡ true) ⊎ (t ≡ false) → BestOf now A (L ++ (r ∷ [])) (cond t (record { excess = x; laxity = l }) best)
@@ -121,7 +119,7 @@ module _ (now : ℕ) (A : List Job) (r : Job) (m : List·Memᴰ r A) (l : Laxity
         go (inr c) = rw c (older (not-chosen new-sum old-sum (l .0) (best .laxity .0) (sym sums ∙ c)))
 
   pub best-more : {L : List Job} {best : Best} → l .0 ≤ longest-laxity → BestOf now A L best
-      → BestOf now A (L ++ (r ∷ [])) (cond (chosen (leZ x (best .excess)) (leZ (best .excess) x) (l .0) (best .laxity .0)) (record { excess = x; laxity = l }) best)
+      → BestOf now A (L ++ (r ∷ [])) (cond (comes-before (leZ x (best .excess)) (leZ (best .excess) x) (l .0) (best .laxity .0)) (record { excess = x; laxity = l }) best)
   best-more {L} h (none-yet e y z) =
       let t = small longest-laxity h in
       let none : (q : Job) → List·Memᴰ q L → ⊥ = λ q j. List·Memᴰ·not-nil (subst (List·Memᴰ q) e j) in

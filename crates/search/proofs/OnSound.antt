@@ -25,7 +25,7 @@ sees-all b s =
     facts-seen _ _ r
     (record {
       shallow = f .shallow;
-      known = rise-above 0 (f .tickets-rise) (Memᴰ·map (λ (q : Job). q .ticket) m);
+      ticketed = rise-above 0 (f .tickets-rise) (Memᴰ·map (λ (q : Job). q .ticket) m);
       in-date = j .in-date;
       short = omega arith;
       graded = j .graded;

@@ -20,7 +20,7 @@ use Rattle.search.specs.Seen.{seen-job, seen}
 
 pub record JobSeen (now d : ℕ) (r : Job) : Type 0 where
   pub shallow : d ≤ deepest
-  pub known : 1 ≤ r .ticket
+  pub ticketed : 1 ≤ r .ticket
   pub in-date : now ≤ r .last
   pub short : laxity now r ≤ longest-laxity
   pub graded : r .grade < 2 ^ d
@@ -30,7 +30,7 @@ unfolding seen-job in-date
 seen-facts now d r h =
     record {
       shallow = leb-true _ _ (every-mem _ h (List·Memᴰ·head refl));
-      known = leb-true _ _ (every-mem _ h (List·Memᴰ·tail (List·Memᴰ·head refl)));
+      ticketed = leb-true _ _ (every-mem _ h (List·Memᴰ·tail (List·Memᴰ·head refl)));
       in-date = leb-true _ _ (every-mem _ h (List·Memᴰ·tail (List·Memᴰ·tail (List·Memᴰ·head refl))));
       short = leb-true _ _ (every-mem _ h (List·Memᴰ·tail (List·Memᴰ·tail (List·Memᴰ·tail (List·Memᴰ·head refl)))));
       graded = ltb-true _ _ (every-mem _ h (List·Memᴰ·tail (List·Memᴰ·tail (List·Memᴰ·tail (List·Memᴰ·tail (List·Memᴰ·head refl))))));
@@ -41,7 +41,7 @@ unfolding seen-job in-date every
 facts-seen now d r f =
     simp (
       le-leb d deepest (f .shallow),
-      le-leb 1 (r .ticket) (f .known),
+      le-leb 1 (r .ticket) (f .ticketed),
       le-leb now (r .last) (f .in-date),
       le-leb (laxity now r) longest-laxity (f .short),
       lt-ltb (r .grade) (2 ^ d) (f .graded),
@@ -58,13 +58,13 @@ unseen now d r n = go (test (seen-job now d r))
 -- where the rest is known, the grade decides: it starts with no bits, all d of them left
 pub seen-by-grade : (now d : ℕ) (r : Job) → d ≤ deepest → 1 ≤ r .ticket → now ≤ r .last → laxity now r ≤ longest-laxity
     → eqb (r .grade / 2 ^ d) 0 ≡ seen-job now d r
-seen-by-grade now d r shallow known date short = same-test (eqb (r .grade / 2 ^ d) 0) (seen-job now d r) yes back
+seen-by-grade now d r shallow ticketed date short = same-test (eqb (r .grade / 2 ^ d) 0) (seen-job now d r) yes back
   where
     yes : eqb (r .grade / 2 ^ d) 0 ≡ true → seen-job now d r ≡ true
     yes h =
         let e = eqb-true (r .grade / 2 ^ d) 0 h in
         let graded : r .grade < 2 ^ d = omega (arith, rw e at (lt-div-mul-add {a = r .grade} (pow-pos d))) in
-        facts-seen now d r (record { shallow = shallow; known = known; in-date = date; short = short; graded = graded })
+        facts-seen now d r (record { shallow = shallow; ticketed = ticketed; in-date = date; short = short; graded = graded })
 
     back : seen-job now d r ≡ true → eqb (r .grade / 2 ^ d) 0 ≡ true
     back h = eq-eqb (r .grade / 2 ^ d) 0 (div-eq-of-lt (seen-facts now d r h .graded))

@@ -16,14 +16,15 @@ use Rattle.rule.specs.Job.{Job}
 use Rattle.rule.specs.Grade.{bits, graded}
 use Rattle.rule.proofs.Bits.Number.{number, length-bits, number-bits, bits-number, number-more}
 use Rattle.rule.proofs.Bits.Reading.{graded-reads}
+use Rattle.search.specs.Inside.{Start, first-bits}
 
 -- twice the start, or one more, with one bit fewer left
-next-room : (d left start : ℕ) → (start + 1) * 2 ^ left ≤ 2 ^ d → 1 ≤ left → (start * 2 + 1 + 1) * 2 ^ (left - 1) ≤ 2 ^ d
+next-room : (d left start : ℕ) → Start d start left → 1 ≤ left → Start d (start * 2 + 1) (left - 1)
 next-room d zero start fits some = absurd (omega arith)
 next-room d (suc n) start fits some = rw sub-one (omega (arith, simp pow-succ' at fits))
 
 -- the grades that start so are below 2 ^ d
-module _ (d left start : ℕ) (fits : (start + 1) * 2 ^ left ≤ 2 ^ d) where
+module _ (d left start : ℕ) (fits : Start d start left) where
   pub start-small : start < 2 ^ d
   start-small = omega (arith, mul-le-mul-left (start + 1) (pow-pos left))
 
@@ -31,7 +32,7 @@ module _ (d left start : ℕ) (fits : (start + 1) * 2 ^ left ≤ 2 ^ d) where
   start-short = ⊎-elim (λ (h : left ≤ d). h) (λ (h : d < left). absurd (omega (arith, pow-lt h))) (cmp left d)
 
   -- the number stands for the bits
-  start-number : number (bits (d - left) start) ≡ start
+  start-number : number (first-bits d start left) ≡ start
   start-number =
       let e : d - left + left ≡ d = omega (arith, start-short) in
       let k : 2 ^ (d - left) * 2 ^ left ≡ 2 ^ d = sym (pow-add 2 (d - left) left) ∙ ap (λ n. 2 ^ n) e in
@@ -39,32 +40,32 @@ module _ (d left start : ℕ) (fits : (start + 1) * 2 ^ left ≤ 2 ^ d) where
       number-bits (d - left) start ∙ mod-eq-of-lt (omega arith)
 
   -- a grade starts so where it is the number once the bits left are shifted out
-  pub starts-so : (r : Job) → r .grade < 2 ^ d → graded d (bits (d - left) start) r ≡ eqb (r .grade / 2 ^ left) start
+  pub starts-so : (r : Job) → r .grade < 2 ^ d → graded d (first-bits d start left) r ≡ eqb (r .grade / 2 ^ left) start
   starts-so r g =
-      let u = bits (d - left) start in
+      let u = first-bits d start left in
       let l : length u ≡ d - left = length-bits (d - left) start in
       let e : d - length u ≡ left = omega (arith, start-short) in
       graded-reads d u r g (omega arith) ∙ ap₂ (λ k n. eqb (r .grade / 2 ^ k) n) e start-number
 
   -- one bit more
   module _ (some : 1 ≤ left) where
-    next-bits : (c : Bool) (n : ℕ) → n ≡ start * 2 + one-if c → bits (d - (left - 1)) n ≡ bits (d - left) start ++ (c ∷ [])
+    next-bits : (c : Bool) (n : ℕ) → n ≡ start * 2 + one-if c → first-bits d n (left - 1) ≡ first-bits d start left ++ (c ∷ [])
     next-bits c n e =
-        let u = bits (d - left) start in
+        let u = first-bits d start left in
         let w : number (u ++ (c ∷ [])) ≡ n = number-more u c ∙ ap (λ k. k * 2 + one-if c) start-number ∙ sym e in
         let l : length (u ++ (c ∷ [])) ≡ d - (left - 1) = omega (arith, length-append u (c ∷ []), length-bits (d - left) start, start-short) in
         ap (bits (d - (left - 1))) (sym w) ∙ bits-number (d - (left - 1)) (u ++ (c ∷ [])) l
 
-    pub next-zero : bits (d - (left - 1)) (start * 2) ≡ bits (d - left) start ++ (false ∷ [])
+    pub next-zero : first-bits d (start * 2) (left - 1) ≡ first-bits d start left ++ (false ∷ [])
     unfolding one-if
     next-zero = next-bits false (start * 2) (omega arith)
 
-    pub next-one : bits (d - (left - 1)) (start * 2 + 1) ≡ bits (d - left) start ++ (true ∷ [])
+    pub next-one : first-bits d (start * 2 + 1) (left - 1) ≡ first-bits d start left ++ (true ∷ [])
     unfolding one-if
     next-one = next-bits true (start * 2 + 1) (omega arith)
 
-    pub zero-fits : (start * 2 + 1) * 2 ^ (left - 1) ≤ 2 ^ d
+    pub zero-fits : Start d (start * 2) (left - 1)
     zero-fits = omega (arith, next-room d left start fits some)
 
-    pub one-fits : (start * 2 + 1 + 1) * 2 ^ (left - 1) ≤ 2 ^ d
+    pub one-fits : Start d (start * 2 + 1) (left - 1)
     one-fits = next-room d left start fits some

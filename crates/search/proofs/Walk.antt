@@ -3,7 +3,7 @@ use mathlib.Core.Path.{_≡_, refl, sym, ap, _∙_}
 use mathlib.Core.Bool.{Bool, true, false, _&&_}
 use mathlib.Core.Logic.{⊎-elim}
 use mathlib.Core.List.{List, [], _∷_, _++_, map, map-append, append-nil, List·Memᴰ, List·Memᴰ·head, List·Memᴰ·tail, Memᴰ·map}
-use Prim.Native.Nat.{ℕ, zero, suc, _+_, _-_, _*_, _/_, _^_, _≤_, _<_, min}
+use Prim.Native.Nat.{ℕ, zero, suc, _+_, _*_, _/_, _^_, _≤_, _<_, min}
 use native.Mathlib.Numerals.{add-one}
 use native.Mathlib.Omega.{arith}
 use lib.Dec.{leb, eqb}
@@ -14,12 +14,12 @@ use Rattle.lists.specs.Select.{select}
 use Rattle.lists.proofs.Tests.{cmp}
 use Rattle.lists.proofs.Members.{select-append, select-yes, select-no, select-select}
 use Rattle.rule.specs.Job.{Job, laxity}
-use Rattle.rule.specs.Grade.{bits, graded, starting}
+use Rattle.rule.specs.Grade.{graded, starting}
 use Rattle.board.specs.declared.Place.{Place}
 use Rattle.board.specs.declared.Board.{Board}
 use Rattle.board.specs.Limits.{longest-laxity, places-held, deepest}
 use Rattle.board.specs.Held.{job-in, blank, used, held}
-use Rattle.search.specs.Inside.{AllSeen}
+use Rattle.search.specs.Inside.{AllSeen, Start, first-bits, starting-so}
 use Rattle.search.proofs.Seeing.{JobSeen, seen-facts}
 use Rattle.search.proofs.Start.{starts-so, start-small, start-short}
 
@@ -32,18 +32,18 @@ jobs-to b i = map job-in (take i (b .places))
 
 -- a job's grade starts so; and its laxity is l or less
 abbrev pub starts-in : Board → (start left : ℕ) → Job → Bool
-starts-in b start left = graded (b .depth) (bits (b .depth - left) start)
+starts-in b start left = graded (b .depth) (first-bits (b .depth) start left)
 
 abbrev pub within : Board → (start left l : ℕ) → Job → Bool
 within b start left l r = starts-in b start left r && leb (laxity (b .slot .0) r) l
 
 -- all jobs passed
-pub starts-all : (b : Board) (start left i : ℕ) → i ≡ b .count → select (starts-in b start left) (jobs-to b i) ≡ starting (b .depth) (bits (b .depth - left) start) (held b)
+pub starts-all : (b : Board) (start left i : ℕ) → i ≡ b .count → select (starts-in b start left) (jobs-to b i) ≡ starting-so b start left
 unfolding starting held used
 starts-all b start left i e = ap (λ n. select (starts-in b start left) (jobs-to b n)) e
 
 pub within-all : (b : Board) (start left l i : ℕ) → i ≡ b .count
-    → select (within b start left l) (jobs-to b i) ≡ select (λ r. leb (laxity (b .slot .0) r) l) (starting (b .depth) (bits (b .depth - left) start) (held b))
+    → select (within b start left l) (jobs-to b i) ≡ select (λ r. leb (laxity (b .slot .0) r) l) (starting-so b start left)
 within-all b start left l i e =
     sym (select-select (λ r. leb (laxity (b .slot .0) r) l) (starts-in b start left) (jobs-to b i))
     ∙ ap (select (λ r. leb (laxity (b .slot .0) r) l)) (starts-all b start left i e)
@@ -79,11 +79,11 @@ module _ (b : Board) (i : ℕ) (there : i < length (b .places)) (p : Job → Boo
 
 -- on a board whose jobs are all seen
 module _ (b : Board) (s : AllSeen b) where
-  pub few-left : (start left : ℕ) → (start + 1) * 2 ^ left ≤ 2 ^ b .depth → left ≤ deepest
+  pub few-left : (start left : ℕ) → Start (b .depth) start left → left ≤ deepest
   few-left start left fits = omega (arith, s .shallow, start-short (b .depth) left start fits)
 
   -- twice a start, and one more, is a u8
-  pub next-byte : (start left : ℕ) → (start + 1) * 2 ^ left ≤ 2 ^ b .depth → start * 2 + 1 < 2 ^ 8
+  pub next-byte : (start left : ℕ) → Start (b .depth) start left → start * 2 + 1 < 2 ^ 8
   unfolding deepest
   next-byte start left fits = omega (arith, pow-mono {i = b .depth} {j = deepest} (s .shallow), start-small (b .depth) left start fits)
 
@@ -105,13 +105,18 @@ module _ (b : Board) (s : AllSeen b) where
 
     pub place-ticket : 1 ≤ place-at b i .ticket
     unfolding job-in
-    place-ticket = place-seen .known
+    place-ticket = place-seen .ticketed
 
-    pub place-starts : (start left : ℕ) → (start + 1) * 2 ^ left ≤ 2 ^ b .depth
+    -- what `is_within` asks there
+    pub place-asks : (start left : ℕ) → Start (b .depth) start left
+        → (left ≤ deepest) × (b .slot .0 ≤ place-at b i .last .0) × (laxity (b .slot .0) (job-in (place-at b i)) ≤ longest-laxity)
+    place-asks start left fits = (few-left start left fits, place-in-date, place-seen .short)
+
+    pub place-starts : (start left : ℕ) → Start (b .depth) start left
         → starts-in b start left (job-in (place-at b i)) ≡ eqb (place-at b i .grade / 2 ^ left) start
     unfolding job-in
     place-starts start left fits = starts-so (b .depth) left start fits (job-in (place-at b i)) (place-seen .graded)
 
-    pub place-within : (start left l : ℕ) → (start + 1) * 2 ^ left ≤ 2 ^ b .depth
+    pub place-within : (start left l : ℕ) → Start (b .depth) start left
         → within b start left l (job-in (place-at b i)) ≡ (eqb (place-at b i .grade / 2 ^ left) start && leb (laxity (b .slot .0) (job-in (place-at b i))) l)
     place-within start left l fits = ap (λ c. c && leb (laxity (b .slot .0) (job-in (place-at b i))) l) (place-starts start left fits)

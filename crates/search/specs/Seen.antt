@@ -18,10 +18,10 @@ seen-job now d r =
     every (λ (passed : Bool). passed)
     (leb d deepest ∷ leb 1 (r .ticket) ∷ in-date now r ∷ leb (laxity now r) longest-laxity ∷ ltb (r .grade) (2 ^ d) ∷ [])
 
--- The board's jobs that are seen; of a sound board all. Another depth has none.
+-- The jobs in the board's places that are seen; of a sound board all.
 unfoldable pub seen : Board → List Job
 seen b = select (seen-job (b .slot .0) (b .depth)) (held b)
 
--- The job that the slot bakes of those; of a sound board, the job that it bakes.
+-- The job that the slot bakes of those; of a sound board, the job that it bakes (proofs/OnSound).
 unfoldable pub bakes-seen : Board → Option Job
 bakes-seen b = baked (b .slot .0) (b .depth) (seen b)

@@ -1,5 +1,5 @@
 // What the search sees of a board, sound or not: the jobs that could stand on a sound board of its depth in its slot. One walk takes the others off, so
-// that the search behind it need not look again.
+// that the loops of the search, which look at each job many times, have no such test.
 ghost use mathlib.Core.Path.{_≡_};
 ghost use Prim.Native.Nat.{_≤_};
 ghost use Rattle.board.specs.Limits.{deepest};

@@ -1,14 +1,12 @@
 // The soonest job: 'the least last slot, on ties the lowest ticket'.
 ghost use mathlib.Core.Path.{_≡_};
 ghost use mathlib.Core.Bool.{not, _||_, cond};
-ghost use Prim.Native.Nat.{_+_, _-_, _*_, _^_, _≤_};
 ghost use lib.Dec.{leb, eqb};
 ghost use Rattle.lists.specs.Select.{select};
 ghost use Rattle.rule.specs.Job.{Job, laxity};
-ghost use Rattle.rule.specs.Grade.{bits, starting};
 ghost use Rattle.rule.specs.Bake.{sooner as is-sooner, soonest as soonest-in, ticket-of, grade-of};
-ghost use Rattle.board.specs.Held.{job-in, held};
-ghost use Rattle.search.specs.Inside.{AllSeen};
+ghost use Rattle.board.specs.Held.{job-in};
+ghost use Rattle.search.specs.Inside.{AllSeen, Start, starting-so};
 use crate::Baked;
 use crate::within;
 use board::Board;
@@ -41,9 +39,9 @@ fn take_sooner(best: Place, p: Place) -> Place
 
 // The soonest of the jobs whose grade starts so and whose laxity is `l` or less.
 pub(crate) fn soonest(b: Board, start: u8, left: u8, l: Laxity) -> Baked
-    requires { ⌜ AllSeen b × ((start + 1) * 2 ^ left ≤ 2 ^ b .depth) ⌝ }
-    ensures { λ r. ⌜ r .ticket ≡ ticket-of (soonest-in (select (λ (q : Job). leb (laxity (b .slot .0) q) (l .0)) (starting (b .depth) (bits (b .depth - left) start) (held b)))) ⌝ }
-    ensures { λ r. ⌜ r .grade ≡ grade-of (soonest-in (select (λ (q : Job). leb (laxity (b .slot .0) q) (l .0)) (starting (b .depth) (bits (b .depth - left) start) (held b)))) ⌝ }
+    requires { ⌜ AllSeen b × Start (b .depth) start left ⌝ }
+    ensures { λ r. ⌜ r .ticket ≡ ticket-of (soonest-in (select (λ (q : Job). leb (laxity (b .slot .0) q) (l .0)) (starting-so b start left))) ⌝ }
+    ensures { λ r. ⌜ r .grade ≡ grade-of (soonest-in (select (λ (q : Job). leb (laxity (b .slot .0) q) (l .0)) (starting-so b start left))) ⌝ }
 {
     let count = b.count;
     let now = b.slot;

@@ -1,15 +1,12 @@
 // The tight laxity: of the laxities that a job has, the least whose excess is smallest.
 ghost use mathlib.Core.Path.{_≡_};
-ghost use mathlib.Core.Bool.{not, _&&_, _||_, cond};
-ghost use Prim.Native.Nat.{_+_, _-_, _*_, _^_, _≤_};
-ghost use lib.Dec.{ltb};
+ghost use mathlib.Core.Bool.{cond};
+ghost use Prim.Native.Nat.{_≤_};
 ghost use lib.IntN.{pos, _-ℤ_};
 ghost use lib.Signed.{leZ};
-ghost use Rattle.rule.specs.Grade.{bits, starting};
 ghost use Rattle.rule.specs.Tight.{tight-laxity};
 ghost use Rattle.board.specs.Limits.{longest-laxity, places-held};
-ghost use Rattle.board.specs.Held.{held};
-ghost use Rattle.search.specs.Inside.{AllSeen};
+ghost use Rattle.search.specs.Inside.{AllSeen, Start, starting-so, comes-before};
 use crate::within;
 use board::Board;
 use board::Laxity;
@@ -37,7 +34,7 @@ fn at_most(x: i32, y: i32) -> bool
 
 // Whether the laxity `l`, with excess `x`, is better than the best so far: its excess is smaller, or the same and the laxity less.
 fn is_better(x: i32, l: Laxity, best: Best) -> bool
-    ensures { λ r. ⌜ r ≡ (leZ x (best .excess) && (not (leZ (best .excess) x) || ltb (l .0) (best .laxity .0))) ⌝ }
+    ensures { λ r. ⌜ r ≡ comes-before (leZ x (best .excess)) (leZ (best .excess) x) (l .0) (best .laxity .0) ⌝ }
 {
     let least = best.excess;
     if at_most(x, least) {
@@ -51,7 +48,7 @@ fn is_better(x: i32, l: Laxity, best: Best) -> bool
 
 // The best once `l`, with excess `x`, is looked at.
 fn better(x: i32, l: Laxity, best: Best) -> Best
-    ensures { λ r. ⌜ r ≡ cond (leZ x (best .excess) && (not (leZ (best .excess) x) || ltb (l .0) (best .laxity .0))) (record { excess = x; laxity = l }) best ⌝ }
+    ensures { λ r. ⌜ r ≡ cond (comes-before (leZ x (best .excess)) (leZ (best .excess) x) (l .0) (best .laxity .0)) (record { excess = x; laxity = l }) best ⌝ }
 {
     if is_better(x, l, best) {
         return Best {
@@ -64,8 +61,8 @@ fn better(x: i32, l: Laxity, best: Best) -> Best
 
 // The tight laxity of the jobs whose grade starts so: the least whose excess is smallest; 0 where there are no such jobs.
 pub(crate) fn tight(b: Board, start: u8, left: u8) -> Laxity
-    requires { ⌜ AllSeen b × ((start + 1) * 2 ^ left ≤ 2 ^ b .depth) ⌝ }
-    ensures { λ r. ⌜ r .0 ≡ tight-laxity (b .slot .0) (starting (b .depth) (bits (b .depth - left) start) (held b)) ⌝ }
+    requires { ⌜ AllSeen b × Start (b .depth) start left ⌝ }
+    ensures { λ r. ⌜ r .0 ≡ tight-laxity (b .slot .0) (starting-so b start left) ⌝ }
 {
     let count = b.count;
     let now = b.slot;

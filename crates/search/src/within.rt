@@ -1,14 +1,13 @@
 // The jobs whose grade starts in some way, and those of them within a laxity.
 ghost use mathlib.Core.Path.{_≡_};
 ghost use mathlib.Core.Bool.{_&&_};
-ghost use Prim.Native.Nat.{_+_, _-_, _*_, _/_, _^_, _≤_};
+ghost use Prim.Native.Nat.{_/_, _^_, _≤_};
 ghost use lib.Dec.{leb, eqb};
 ghost use Rattle.lists.specs.Select.{how-many};
 ghost use Rattle.rule.specs.Job.{Job, laxity};
-ghost use Rattle.rule.specs.Grade.{bits, starting};
 ghost use Rattle.board.specs.Limits.{deepest, longest-laxity, places-held};
-ghost use Rattle.board.specs.Held.{job-in, held};
-ghost use Rattle.search.specs.Inside.{AllSeen};
+ghost use Rattle.board.specs.Held.{job-in};
+ghost use Rattle.search.specs.Inside.{AllSeen, Start, starting-so};
 use board::Board;
 use board::Laxity;
 use board::Place;
@@ -44,8 +43,8 @@ pub(crate) fn is_within(now: Slot, p: Place, start: u8, left: u8, l: Laxity) -> 
 
 // How many of the jobs whose grade starts so have laxity `l` or less.
 pub(crate) fn count_within(b: Board, start: u8, left: u8, l: Laxity) -> u32
-    requires { ⌜ AllSeen b × ((start + 1) * 2 ^ left ≤ 2 ^ b .depth) ⌝ }
-    ensures { λ r. ⌜ (r ≡ how-many (λ (q : Job). leb (laxity (b .slot .0) q) (l .0)) (starting (b .depth) (bits (b .depth - left) start) (held b))) × (r ≤ places-held) ⌝ }
+    requires { ⌜ AllSeen b × Start (b .depth) start left ⌝ }
+    ensures { λ r. ⌜ (r ≡ how-many (λ (q : Job). leb (laxity (b .slot .0) q) (l .0)) (starting-so b start left)) × (r ≤ places-held) ⌝ }
 {
     let count = b.count;
     let now = b.slot;

@@ -14,7 +14,7 @@ cast-if1 c = search needs
 
 returns : tie.Need-returns
 unfolding deepest ticket-of grade-of
-returns c = let e = bakes-none _ (c .if1 .taken) in (sym (ap ticket-of e), sym (ap grade-of e))
+returns c = let e = bakes-none (c .before .before .args .b) (omega arith) in (sym (ap ticket-of e), sym (ap grade-of e))
 
 only-seen-requires : tie.Need-only-seen-requires
 unfolding deepest

@@ -1,11 +1,10 @@
 -- `search::descent::has_zero`: some job within the tight laxity goes on with 0. Assumes nothing.
-use Prim.Native.Nat.{_-_}
 use mathlib.Core.Path.{ap, _∙_}
 use native.Mathlib.Omega.{arith}
 use borrow.Author.Needs.{needs}
 use lib.Dec.{ltb}
-use Rattle.rule.specs.Grade.{bits}
 use Rattle.board.specs.Held.{held}
+use Rattle.search.specs.Inside.{first-bits}
 use Rattle.search.proofs.Start.{next-zero, zero-fits}
 use Rattle.search.proofs.Walk.{next-byte}
 use Rattle.search.proofs.NextBit.{zero-next}
@@ -36,7 +35,7 @@ returns c =
     let a = s .args in
     let b = a .b in
     let next = next-zero (b .depth) (a .left) (a .start) (s .pre .1) (s .pre .2) in
-    ap (ltb 0) (c .count-within .ensures .0) ∙ simp (next, c .before .tight .ensures) (zero-next (b .slot .0) (b .depth) (held b) (bits (b .depth - a .left) (a .start)))
+    ap (ltb 0) (c .count-within .ensures .0) ∙ simp (next, c .before .tight .ensures) (zero-next (b .slot .0) (b .depth) (held b) (first-bits (b .depth) (a .start) (a .left)))
 
 pub has-zero-spec : {M : Type 1} → statement M
 has-zero-spec =

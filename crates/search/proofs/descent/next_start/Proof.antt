@@ -1,11 +1,10 @@
 -- `search::descent::next_start`: the start with 0 behind it, or with 1. Assumes nothing.
-use Prim.Native.Nat.{_-_}
 use mathlib.Core.Path.{sym, ap, _∙_}
 use mathlib.Core.List.{[], _∷_, _++_}
 use native.Mathlib.Omega.{arith}
 use borrow.Author.Needs.{needs}
 use borrow.Author.Tests.{not-true, not-false}
-use Rattle.rule.specs.Grade.{bits}
+use Rattle.search.specs.Inside.{first-bits}
 use Rattle.search.proofs.Start.{next-zero, next-one, zero-fits, one-fits}
 use Rattle.search.proofs.Walk.{next-byte}
 use Rattle.search.proofs.descent.next_start.Statement.{statement}
@@ -26,7 +25,7 @@ returns c =
     let a = s .args in
     let d = a .b .depth in
     let bit = not-true _ (sym (c .before .has-zero .ensures) ∙ c .if1 .taken) in (
-      next-zero d (a .left) (a .start) (s .pre .1) (s .pre .2) ∙ ap (λ n. bits (d - a .left) (a .start) ++ (n ∷ [])) (sym bit),
+      next-zero d (a .left) (a .start) (s .pre .1) (s .pre .2) ∙ ap (λ n. first-bits d (a .start) (a .left) ++ (n ∷ [])) (sym bit),
       zero-fits d (a .left) (a .start) (s .pre .1) (s .pre .2),
     )
 
@@ -48,7 +47,7 @@ returns-2 c =
     let a = s .args in
     let d = a .b .depth in
     let bit = not-false _ (sym (c .before .has-zero .ensures) ∙ c .if1 .left) in (
-      next-one d (a .left) (a .start) (s .pre .1) (s .pre .2) ∙ ap (λ n. bits (d - a .left) (a .start) ++ (n ∷ [])) (sym bit),
+      next-one d (a .left) (a .start) (s .pre .1) (s .pre .2) ∙ ap (λ n. first-bits d (a .start) (a .left) ++ (n ∷ [])) (sym bit),
       one-fits d (a .left) (a .start) (s .pre .1) (s .pre .2),
     )
 

@@ -5,13 +5,13 @@ use borrow.Author.Needs.{needs}
 use Rattle.rule.specs.Job.{laxity}
 use Rattle.board.specs.Limits.{longest-laxity}
 use Rattle.board.specs.Held.{job-in}
-use Rattle.search.proofs.Seeing.{JobSeen, unseen, seen-by-grade}
+use Rattle.search.proofs.Seeing.{unseen, seen-by-grade}
 use Rattle.search.proofs.seen.is_seen.Statement.{statement}
 use Rattle.search.proofs.seen.is_seen.Tie as tie
 
 returns : tie.Need-returns
 unfolding job-in
-returns c = unseen _ _ _ (λ s. omega (arith, s .known))
+returns c = unseen _ _ _ (λ s. omega (arith, s .ticketed))
 
 returns-2 : tie.Need-returns-2
 unfolding job-in

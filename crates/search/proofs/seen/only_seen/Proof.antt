@@ -10,10 +10,6 @@ use Rattle.board.proofs.Known.{all-places}
 use Rattle.search.proofs.OnlySeen.{Kept, kept-none, kept-more, kept-same, seen-of}
 use Rattle.search.proofs.seen.only_seen.Statement.{statement}
 use Rattle.search.proofs.seen.only_seen.Tie as tie
-use Rattle.search.proofs.seen.only_seen.Reads as reads
-use Rattle.search.proofs.seen.only_seen.Lts as lts
-use Rattle.lists.proofs.lesser.Reads as lesser-reads
-use Rattle.search.proofs.seen.is_seen.Reads as is-seen-reads
 
 abbrev Inv-loop : tie.InvT-loop
 Inv-loop b count now depth places₀ kept₀ i₀ places kept i = (i ≤ count) × (count ≤ places-held) × Kept b i kept places

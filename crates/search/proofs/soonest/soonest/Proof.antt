@@ -7,7 +7,7 @@ use borrow.Author.Needs.{needs}
 use Rattle.lists.specs.Select.{select}
 use Rattle.rule.specs.Bake.{soonest, ticket-of, grade-of}
 use Rattle.board.specs.Limits.{places-held}
-use Rattle.search.proofs.Walk.{place-at, jobs-to, within, within-all, few-left, place-there, place-in-date, place-seen, place-ticket, place-within, one-more, none-more}
+use Rattle.search.proofs.Walk.{place-at, jobs-to, within, within-all, place-there, place-asks, place-ticket, place-within, one-more, none-more}
 use Rattle.search.proofs.Earlier.{Found, found-none, found-more, found-ticket, found-grade}
 use Rattle.search.proofs.soonest.soonest.Statement.{statement}
 use Rattle.search.proofs.soonest.soonest.Tie as tie
@@ -34,9 +34,7 @@ is-within-requires : tie.Need-is-within-requires Inv-loop μ-loop
 is-within-requires c κs =
     let k = c .before .before in
     let s = k .before .before in
-    let b = s .args .t1 in
-    let h : k .loop .i < b .count = omega arith in
-    (few-left b (s .pre .0) (s .args .start) (s .args .left) (s .pre .1), place-in-date b (s .pre .0) _ h, place-seen b (s .pre .0) _ h .short)
+    place-asks (s .args .t1) (s .pre .0) (k .loop .i) (omega arith) (s .args .start) (s .args .left) (s .pre .1)
 
 take-sooner-requires : tie.Need-take-sooner-requires Inv-loop μ-loop
 take-sooner-requires c κs = search needs

@@ -10,7 +10,7 @@ use Rattle.lists.specs.Select.{select}
 use Rattle.lists.proofs.Counting.{count-select}
 use Rattle.board.specs.Limits.{places-held}
 use Rattle.board.specs.Held.{job-in}
-use Rattle.search.proofs.Walk.{place-at, jobs-to, within, within-all, few-left, place-there, place-in-date, place-seen, place-within, one-more, none-more}
+use Rattle.search.proofs.Walk.{place-at, jobs-to, within, within-all, place-there, place-asks, place-within, one-more, none-more}
 use Rattle.search.proofs.within.count_within.Statement.{statement}
 use Rattle.search.proofs.within.count_within.Tie as tie
 
@@ -37,9 +37,7 @@ is-within-requires : tie.Need-is-within-requires Inv-loop μ-loop
 is-within-requires c κs =
     let k = c .before .before in
     let s = k .before .before in
-    let b = s .args .t1 in
-    let h : k .loop .i < b .count = omega arith in
-    (few-left b (s .pre .0) (s .args .start) (s .args .left) (s .pre .1), place-in-date b (s .pre .0) _ h, place-seen b (s .pre .0) _ h .short)
+    place-asks (s .args .t1) (s .pre .0) (k .loop .i) (omega arith) (s .args .start) (s .args .left) (s .pre .1)
 
 add-n : tie.Need-add-n Inv-loop μ-loop
 unfolding places-held
