@@ -6,7 +6,7 @@ use Prim.Native.Nat.{ℕ, _+_, _*_, _^_, _≤_, _<_}
 use lib.ListN.{length}
 use Rattle.lines.specs.Bytes.{Bytes}
 use Rattle.lines.specs.Session.{output}
-use Rattle.lines.specs.Machine.{new-machine, after-bytes, printed-along, printed-at-end}
+use Rattle.lines.specs.Machine.{new-machine, after-bytes, printed-along}
 use Rattle.program.specs.declared.feed.Desk.{Desk}
 use Rattle.program.specs.declared.run.Ended.{Ended}
 use Rattle.program.specs.declared.run.Ended.the-variants.{Whole, ReadFailed, WriteFailed, TooLong}

@@ -28,7 +28,7 @@ pub struct Outcome {
 }
 
 impl Outcome {
-    // Bytes read before the last read, at the most: so few that no count here wraps, however many lines they are.
+    // Bytes read before the last read, at the most: so few that no count here wraps, however many lines they are. `too_long` says the number.
     pub const MOST_READ: u64 = 1 << 48;
 }
 

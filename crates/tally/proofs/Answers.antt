@@ -6,7 +6,6 @@ use lib.Dec.{leb}
 use borrow.Author.Tests.{leb-false, lt-leb, le-leb}
 use Rattle.lists.proofs.Tests.{or-false}
 use Rattle.board.specs.declared.Tally.{Tally}
-use Rattle.board.specs.declared.Counted.{Counted}
 use Rattle.board.specs.Rows.{_if_, first-given}
 use Rattle.board.specs.Tally.{tally-kinds, tally-grades, tally-most, count-at, tally-number, counted-if, counted}
 use Rattle.board.proofs.Tallies.CountAt.{Cell}

@@ -7,7 +7,7 @@ use borrow.Author.Needs.{needs}
 use lib.ListN.{length, set, take, getD, replicate, length-set}
 use Rattle.lines.specs.Bytes.{Bytes, comma, line-end}
 use Rattle.lines.specs.Printing.{decimal, with-commas, printed}
-use Rattle.printing.specs.Lines.{line-numbers, line-digits, room, put, line-of}
+use Rattle.printing.specs.Lines.{line-numbers, line-digits, room, line-of}
 use Rattle.printing.proofs.Commas.{from, next-number, no-number}
 use Rattle.printing.proofs.Unfinished.{ended, ended-new, ended-first, ended-append, ended-last}
 use Rattle.printing.proofs.print_line.Statement.{statement}
