@@ -31,8 +31,11 @@ returns c =
     let o = t .before .before in
     given-as (admit-refused _ _ _ _ _ (o .admit-in-limits .result) (answered o) (t .if1 .taken)) (c .before .before .refuse .ensures)
 
-cast-t22 : tie.Need-cast-t22
-cast-t22 c = search needs
+cast-t23 : tie.Need-cast-t23
+cast-t23 c = search needs
+
+slice-aggregate-say : tie.Need-slice-aggregate-say
+slice-aggregate-say c = search needs
 
 say-requires : tie.Need-say-requires
 unfolding line-room
@@ -48,7 +51,7 @@ returns-2 : tie.Need-returns-2
 unfolding letter-A GoodDay admitted-kind
 returns-2 c =
     let s = c .before .before .before .before .before in
-    let e = s .before .before .before in
+    let e = s .before .before .before .before in
     let o = e .before .before in
     let p = o .before .before .before .pre in
     admit-given _ _ _ _ _ (o .admit-in-limits .result) (answered o) _ (p .0 (p .1 .0)) (e .if1 .left) (s .say .ensures) (c .count .ensures)
@@ -61,7 +64,8 @@ admit-line-spec =
     refuse-requires
     same-length
     returns
-    cast-t22
+    cast-t23
+    slice-aggregate-say
     say-requires
     count-requires
     same-length-2
