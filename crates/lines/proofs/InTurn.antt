@@ -16,7 +16,7 @@ use Rattle.lines.specs.Reading.{Request, open-board, admit-job, close-sl
 
 -- what holds of every row of a table
 unfoldable pub Every : (Form → Type 0) → List Form → Type 0
-Every P [] = record { }
+Every P [] = record {}
 Every P (r ∷ rows) = P r × Every P rows
 
 -- a row that is found has the letter, and what holds of every row holds of it
@@ -32,25 +32,25 @@ found P (x ∷ rows) e f r h = go (test (is-letter (x .letter) f)) (found P rows
     go (inr t) ih = ih (sym (cond-false (is-letter (x .letter) f) (some x) (form-in rows f) t) ∙ h)
 
 -- the request is for a board that is open
-unfoldable pub for-open : Request → Bool
-for-open (open-board d) = false
-for-open (admit-job t w g) = true
-for-open close-slot = true
+unfoldable pub needs-open : Request → Bool
+needs-open (open-board d) = false
+needs-open (admit-job t w g) = true
+needs-open close-slot = true
 
 -- in its turn a line of this form asks for what then can be done
 InTurn : Form → Type 0
-InTurn r = (l : Bytes) (o : Bool) → out-of-turn (r .turn) o ≡ false → for-open (request-by (some r) l) ≡ o
+InTurn r = (l : Bytes) (o : Bool) → out-of-turn (r .for-open) o ≡ false → needs-open (request-by (some r) l) ≡ o
 
 each-in-turn : Every InTurn forms
-unfolding Every forms InTurn out-of-turn for-open request-by with-values
+unfolding Every forms InTurn out-of-turn needs-open request-by with-values
 each-in-turn =
-    (λ l o h. sym h, (λ l o h. sym (not-false o h), (λ l o h. sym (not-false o h), record { })))
+    (λ l o h. sym h, (λ l o h. sym (not-false o h), (λ l o h. sym (not-false o h), record {})))
 
-pub in-turn : (o : Bool) (l : Bytes) → line-number o l ≡ 0 → for-open (request l) ≡ o
+pub in-turn : (o : Bool) (l : Bytes) → line-number o l ≡ 0 → needs-open (request l) ≡ o
 unfolding line-number line-rows form-rows form-of request InTurn
 in-turn o l h = go (form-in forms (field 0 l)) refl (row-passed 10 (too-long l) _ h .1)
   where
-    go : (q : Option Form) → form-in forms (field 0 l) ≡ q → first-given (form-rows q o l) ≡ 0 → for-open (request-by q l) ≡ o
+    go : (q : Option Form) → form-in forms (field 0 l) ≡ q → first-given (form-rows q o l) ≡ 0 → needs-open (request-by q l) ≡ o
     go none e k = never refl (row-passed 11 true [] k .0)
     go (some r) e k =
         let thirteen = row-passed 12 _ _ k in

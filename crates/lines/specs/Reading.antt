@@ -20,24 +20,20 @@ abbrev pub Asks : List Kind → Type 0
 Asks [] = Request
 Asks (k ∷ ks) = ℕ → Asks ks
 
--- whether a line is for a board that is open, or comes while none is
-pub data Turn : Type 0 where
-  while-open : Turn
-  while-none : Turn
-
--- A row of the table: a letter, the fields after it, the line's turn, and what the line asks for with the values of these fields.
+-- A row of the table: a letter; the fields after it; whether the line is for a board that is open, or comes while none is; and what it asks for with
+-- the values of these fields.
 pub record Form : Type 0 where
   pub letter : ℕ
   pub after : List Kind
-  pub turn : Turn
+  pub for-open : Bool
   pub asks : Asks after
 
 -- '`D,depth` opens, `A,ticket,wait,grade` admits, `B` closes the slot'
 unfoldable pub forms : List Form
 forms =
-    record { letter = letter-D; after = a-number ∷ []; turn = while-none; asks = open-board }
-    ∷ record { letter = letter-A; after = a-number ∷ a-number ∷ a-grade ∷ []; turn = while-open; asks = admit-job }
-    ∷ record { letter = letter-B; after = []; turn = while-open; asks = close-slot }
+    record { letter = letter-D; after = a-number ∷ []; for-open = false; asks = open-board }
+    ∷ record { letter = letter-A; after = a-number ∷ a-number ∷ a-grade ∷ []; for-open = true; asks = admit-job }
+    ∷ record { letter = letter-B; after = []; for-open = true; asks = close-slot }
     ∷ []
 
 -- the row of a first field: none where the field is no letter of the table
@@ -70,9 +66,9 @@ readable [] n l = true
 readable (k ∷ ks) n l = readable-as k (field n l) && readable ks (suc n) l
 
 -- row 15: 'D while a board is open; A or B while none is'
-unfoldable pub out-of-turn : Turn → (opened : Bool) → Bool
-out-of-turn while-none opened = opened
-out-of-turn while-open opened = not opened
+unfoldable pub out-of-turn : (for-open opened : Bool) → Bool
+out-of-turn false opened = opened
+out-of-turn true opened = not opened
 
 -- row 12: 'first field is not A, B or D'; rows 13 to 15 by the letter's row of the table
 unfoldable pub form-rows : Option Form → Bool → Bytes → List Row
@@ -80,7 +76,7 @@ form-rows none opened l = 12 if true ∷ []
 form-rows (some r) opened l =
     13 if not (eqb (length (fields l)) (fields-wanted r))
     ∷ 14 if not (readable (r .after) 1 l)
-    ∷ 15 if out-of-turn (r .turn) opened
+    ∷ 15 if out-of-turn (r .for-open) opened
     ∷ []
 
 -- rows 11 to 15

@@ -13,7 +13,7 @@ use Rattle.lines.specs.Bytes.{Bytes}
 use Rattle.lines.specs.Reading.{line-number, Request, open-board, admit-job, close-slot, request}
 use Rattle.lines.specs.Session.{Session, is-open, refused, on-board, answer-request, answer-if, answer}
 use Rattle.lines.specs.NeverMet.{request-numbers, line-numbers}
-use Rattle.lines.proofs.InTurn.{for-open, in-turn}
+use Rattle.lines.proofs.InTurn.{needs-open, in-turn}
 use Rattle.lines.proofs.NeverMet.Between.{InRun}
 use Rattle.lines.proofs.NeverMet.Calls.{Goes, nothing-given, goes-open, goes-admit, goes-close}
 
@@ -26,9 +26,9 @@ module _ (s : Session) (i : ℕ) (h : InRun (s .board) (s .tally)) where
   while-none z close-slot = nothing-given s h
 
   -- a request for a board that is open
-  while-open : (b : Board) → InRun (some b) (s .tally) → (q : Request) → for-open q ≡ true
+  while-open : (b : Board) → InRun (some b) (s .tally) → (q : Request) → needs-open q ≡ true
       → Goes (request-numbers (some b) (s .tally) q) (answer-request s (some b) i q .session)
-  unfolding for-open request-numbers answer-request on-board InRun
+  unfolding needs-open request-numbers answer-request on-board InRun
   while-open b r (open-board d) e = never e refl
   while-open b r (admit-job t w g) e = goes-admit s i h b r t w g
   while-open b r close-slot e = goes-close s i h b r
