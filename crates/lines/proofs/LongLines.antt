@@ -1,15 +1,15 @@
 -- Of a line the bytes that are held decide: a longer one gets number 11 whatever else it holds.
-use mathlib.Core.Path.{_≡_, refl, sym, ap, _∙_}
-use mathlib.Core.Bool.{Bool, true, false, cond}
+use mathlib.Core.Path.{_≡_, sym, ap, _∙_}
+use mathlib.Core.Bool.{Bool}
 use mathlib.Core.Logic.{_⊎_, inl, inr}
-use mathlib.Core.List.{List, [], _∷_, _++_}
+use mathlib.Core.List.{[], _∷_, _++_}
 use Prim.Native.Nat.{ℕ, _≤_, _<_}
 use native.Mathlib.Omega.{arith}
 use lib.ListN.{length, take, length-take, length-append}
 use lib.Seq.{take-all, take-append-le}
 use borrow.Author.Tests.{lt-ltb, le-ltb}
 use Rattle.board.specs.Rows.{_if_, first-given}
-use Rattle.lists.proofs.Tests.{cmp, cond-true, cond-false}
+use Rattle.lists.proofs.Tests.{cmp, cond-true}
 use Rattle.lines.specs.Bytes.{Bytes}
 use Rattle.lines.specs.Reading.{longest-line, too-long, line-rows, line-number}
 use Rattle.lines.specs.Session.{Session, is-open, answer, answer-if}
@@ -31,19 +31,26 @@ answer-first s i l = go (cmp (length l) most-held)
     go (inl h) = ap (answer s i) (take-all most-held l h)
     go (inr h) = refused-long s i (take most-held l) (omega (arith, length-take most-held l)) ∙ sym (refused-long s i l (omega arith))
 
+-- a line takes a further byte up to the first that makes it too long
+pub hold-room : (b : ℕ) (l : Bytes) → length l ≤ longest-line → hold b l ≡ l ++ (b ∷ [])
+unfolding hold too-long
+hold-room b l h = simp le-ltb
+
+pub hold-full : (b : ℕ) (l : Bytes) → longest-line < length l → hold b l ≡ l
+unfolding hold too-long
+hold-full b l h = simp lt-ltb
+
 -- holding a byte keeps the first that are held
 pub hold-first : (b : ℕ) (l : Bytes) → hold b (take most-held l) ≡ take most-held (l ++ (b ∷ []))
-unfolding hold too-long most-held
+unfolding most-held
 hold-first b l = go (cmp most-held (length l))
   where
     held : Bytes
     held = take most-held l
 
-    go : (most-held ≤ length l) ⊎ (length l < most-held) → cond (too-long held) held (held ++ (b ∷ [])) ≡ take most-held (l ++ (b ∷ []))
-    go (inl h) =
-        cond-true (too-long held) held (held ++ (b ∷ [])) (lt-ltb longest-line (length held) (omega (arith, length-take most-held l)))
-        ∙ sym (take-append-le most-held l (b ∷ []) h)
+    go : (most-held ≤ length l) ⊎ (length l < most-held) → hold b held ≡ take most-held (l ++ (b ∷ []))
+    go (inl h) = hold-full b held (omega (arith, length-take most-held l)) ∙ sym (take-append-le most-held l (b ∷ []) h)
     go (inr h) =
-        cond-false (too-long held) held (held ++ (b ∷ [])) (le-ltb longest-line (length held) (omega (arith, length-take most-held l)))
+        hold-room b held (omega (arith, length-take most-held l))
         ∙ ap (λ (x : Bytes). x ++ (b ∷ [])) (take-all most-held l (omega arith))
         ∙ sym (take-all most-held (l ++ (b ∷ [])) (let z = length-append l (b ∷ []) in omega arith))

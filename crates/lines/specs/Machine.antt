@@ -1,7 +1,7 @@
 -- The program byte by byte: what it holds between two bytes, and what each byte prints. Of a line that is too long no further byte is held: it is
 -- refused whatever it holds. proofs/ has that this is the whole output.
-use mathlib.Core.Bool.{Bool, true, false, cond}
-use mathlib.Core.List.{List, [], _∷_, _++_}
+use mathlib.Core.Bool.{cond}
+use mathlib.Core.List.{[], _∷_, _++_}
 use Prim.Native.Nat.{ℕ, suc}
 use lib.Dec.{eqb}
 use lib.ListN.{length}

@@ -1,5 +1,5 @@
 -- A field of digits, one byte further, and when it is a number.
-use mathlib.Core.Path.{_≡_, refl, sym, ap}
+use mathlib.Core.Path.{_≡_, refl, ap}
 use mathlib.Core.Bool.{Bool, true, false, _&&_}
 use Prim.Native.Nat.{ℕ, _+_, _-_, _*_, _^_, _≤_, _<_}
 use native.Mathlib.Numerals.{add-one}
@@ -9,7 +9,7 @@ use lib.Dec.{leb}
 use lib.ListN.{length, getD, drop}
 use borrow.Author.Tests.{leb-true, le-leb, lt-leb, ne-eqb}
 use Rattle.lists.specs.Select.{every}
-use Rattle.lists.proofs.Tests.{and-left, and-right, cond-false}
+use Rattle.lists.proofs.Tests.{and-left, and-right}
 use Rattle.board.specs.Rows.{_if_, first-given}
 use Rattle.lines.specs.Bytes.{Bytes}
 use Rattle.lines.specs.Fields.{is-digit, value-after, value, is-number, is-blank, a-number, a-grade, readable-as, value-as}

@@ -17,7 +17,7 @@ use Rattle.lines.specs.Reading.{Form, forms, form-in, fields-wanted, readable, 
 use Rattle.lines.proofs.InTurn.{Every, found}
 use Rattle.reading.specs.declared.Letter.the-variants.{Is, Other}
 use Rattle.reading.specs.declared.Asked.the-variants.{Close}
-use Rattle.reading.specs.Answers.{Result, asked-result, result}
+use Rattle.reading.specs.Answers.{asked-result, result}
 use Rattle.reading.specs.Parts.{letter-result, form-result, letter-read, unless, fields-read, form-read, after-letter}
 use Rattle.reading.proofs.Results.{not-both, values-given}
 

@@ -1,14 +1,40 @@
 -- `read_admit` answers row 14 or the values, by what its fields are.
-use mathlib.Core.Path.{_∙_}
+use mathlib.Core.Path.{_≡_, sym, ap, _∙_}
 use borrow.Author.Needs.{needs}
 use Rattle.lines.specs.Bytes.{letter-A, letter-D}
-use Rattle.lines.specs.Fields.{is-letter}
-use Rattle.lines.specs.Reading.{forms, form-in}
+use Rattle.lines.specs.Fields.{a-number, a-grade, is-letter}
+use Rattle.lines.specs.Reading.{forms, form-in, field}
+use Rattle.reading.specs.declared.numbers.Field.the-variants.{Number}
 use Rattle.reading.specs.Answers.{asked-result}
-use Rattle.reading.specs.Parts.{form-read, after-letter}
+use Rattle.reading.specs.Parts.{field-result, field-read, form-read, after-letter}
 use Rattle.reading.proofs.FieldByField.{bad-field, good-field, no-more-fields}
 use Rattle.reading.proofs.read_admit.Statement.{statement}
 use Rattle.reading.proofs.read_admit.Tie as tie
+
+-- what the fields' readers answer
+first : (c : tie.After-number-field) → field-result (c .number-field .result) ≡ field-read a-number (field 1 (c .before .before .before .args .line .now))
+first c = c .number-field .ensures ∙ ap (field-read a-number) (c .before .nth-field .ensures)
+
+second : (c : tie.After-number-field2)
+    → field-result (c .number-field2 .result) ≡ field-read a-number (field 2 (c .before .before .before .before .before .before .before .before .args .line .now))
+second c = c .number-field2 .ensures ∙ ap (field-read a-number) (c .before .nth-field2 .ensures)
+
+third : (c : tie.After-grade-field)
+    → field-result (c .grade-field .result) ≡ field-read a-grade (field 3 (c .before .before .before .before .before .before .before .before .before .before .before .before .before .args .line .now))
+third c = c .grade-field .ensures ∙ ap (field-read a-grade) (c .before .nth-field3 .ensures)
+
+-- past its test a field is a number
+ticket : (c : tie.After-ticket)
+    → field-result (Number (c .ticket .given .0 .0)) ≡ field-read a-number (field 1 (c .before .before .before .before .before .args .line .now))
+ticket c = sym (ap field-result (c .ticket .given .1)) ∙ first (c .before .before)
+
+laxity : (c : tie.After-laxity)
+    → field-result (Number (c .laxity .given .0 .0)) ≡ field-read a-number (field 2 (c .before .before .before .before .before .before .before .before .before .before .args .line .now))
+laxity c = sym (ap field-result (c .laxity .given .1)) ∙ second (c .before .before)
+
+grade : (c : tie.After-grade)
+    → field-result (Number (c .grade .given .0 .0)) ≡ field-read a-grade (field 3 (c .before .before .before .before .before .before .before .before .before .before .before .before .before .before .before .args .line .now))
+grade c = sym (ap field-result (c .grade .given .1)) ∙ third (c .before .before)
 
 nth-field-requires : tie.Need-nth-field-requires
 nth-field-requires c κs = search needs
@@ -24,7 +50,7 @@ enum-told c = search needs
 
 returns : tie.Need-returns
 unfolding after-letter form-read form-in forms is-letter letter-A letter-D asked-result
-returns c = bad-field _ _ _ _ _ (cc)
+returns c = bad-field _ _ _ _ _ (sym (ap field-result (c .enum-told .given .1)) ∙ first (c .before .before))
 
 nth-field-requires-2 : tie.Need-nth-field-requires-2
 nth-field-requires-2 c κs = search needs
@@ -41,8 +67,8 @@ enum-told-2 c = search needs
 returns-2 : tie.Need-returns-2
 unfolding after-letter form-read form-in forms is-letter letter-A letter-D asked-result
 returns-2 c =
-    let t = c .before .before .before .before .before in
-    bad-field _ _ _ _ _ (cc) ∙ good-field _ _ _ _ _ (t .ticket .given .0 .0) (cc)
+    let m = c .before .before in
+    bad-field _ _ _ _ _ (sym (ap field-result (c .enum-told2 .given .1)) ∙ second m) ∙ good-field _ _ _ _ _ _ (ticket (m .before .before .before))
 
 nth-field-requires-3 : tie.Need-nth-field-requires-3
 nth-field-requires-3 c κs = search needs
@@ -59,13 +85,18 @@ enum-told-3 c = search needs
 returns-3 : tie.Need-returns-3
 unfolding after-letter form-read form-in forms is-letter letter-A letter-D asked-result
 returns-3 c =
-    let w = c .before .before .before .before .before in
+    let m = c .before .before in
+    let w = m .before .before .before in
     let t = w .before .before .before .before .before in
-    bad-field _ _ _ _ _ (cc) ∙ good-field _ _ _ _ _ (w .laxity .given .0 .0) (cc) ∙ good-field _ _ _ _ _ (t .ticket .given .0 .0) (cc)
+    bad-field _ _ _ _ _ (sym (ap field-result (c .enum-told3 .given .1)) ∙ third m) ∙ good-field _ _ _ _ _ _ (laxity w) ∙ good-field _ _ _ _ _ _ (ticket t)
 
 returns-4 : tie.Need-returns-4
 unfolding after-letter form-read form-in forms is-letter letter-A letter-D asked-result
-returns-4 c = no-more-fields _ _ _ ∙ good-field _ _ _ _ _ _ (cc) ∙ good-field _ _ _ _ _ _ (cc) ∙ good-field _ _ _ _ _ _ (cc)
+returns-4 c =
+    let g = c .before in
+    let w = g .before .before .before .before .before in
+    let t = w .before .before .before .before .before in
+    no-more-fields _ _ _ ∙ good-field _ _ _ _ _ _ (grade g) ∙ good-field _ _ _ _ _ _ (laxity w) ∙ good-field _ _ _ _ _ _ (ticket t)
 
 pub read-admit-spec : {M : Type 1} → statement M
 read-admit-spec =

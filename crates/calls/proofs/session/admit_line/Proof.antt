@@ -22,8 +22,8 @@ returns c =
     let o = t .before .before in
     given-as (admit-refused _ _ _ _ _ (o .admit-sound .result) (o .admit-sound .ensures) (t .if1 .taken)) (c .before .before .refuse .ensures)
 
-cast-t22 : tie.Need-cast-t22
-cast-t22 c = search needs
+cast-t21 : tie.Need-cast-t21
+cast-t21 c = search needs
 
 say-requires : tie.Need-say-requires
 unfolding line-room
@@ -52,7 +52,7 @@ admit-line-spec =
     refuse-requires
     same-length
     returns
-    cast-t22
+    cast-t21
     say-requires
     count-requires
     same-length-2
