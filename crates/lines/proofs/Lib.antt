@@ -1,4 +1,5 @@
 pub mod Cutting
+pub mod InTurn
 pub mod LongLines
 pub mod ByteByByte
 pub mod NeverMet

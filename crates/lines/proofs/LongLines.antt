@@ -1,46 +1,56 @@
--- Of a line the first 41 bytes decide: a longer one gets number 11 whatever else it holds.
-use mathlib.Core.Path.{_≡_, refl, sym, ap, _∙_}
-use mathlib.Core.Bool.{Bool, true, false, cond}
+-- Of a line the bytes that are held decide: a longer one gets number 11 whatever else it holds.
+use mathlib.Core.Path.{_≡_, sym, ap, _∙_}
+use mathlib.Core.Bool.{Bool}
 use mathlib.Core.Logic.{_⊎_, inl, inr}
-use mathlib.Core.List.{List, [], _∷_, _++_}
-use Prim.Native.Nat.{ℕ, suc, _≤_, _<_, min}
+use mathlib.Core.List.{[], _∷_, _++_}
+use Prim.Native.Nat.{ℕ, _≤_, _<_}
 use native.Mathlib.Omega.{arith}
-use lib.Dec.{leb, ltb}
 use lib.ListN.{length, take, length-take, length-append}
 use lib.Seq.{take-all, take-append-le}
-use borrow.Author.Tests.{lt-ltb, le-leb, lt-leb}
+use borrow.Author.Tests.{lt-ltb, le-ltb}
 use Rattle.board.specs.Rows.{_if_, first-given}
-use Rattle.lists.proofs.Tests.{cmp, cond-true, cond-false}
+use Rattle.lists.proofs.Tests.{cmp, cond-true}
 use Rattle.lines.specs.Bytes.{Bytes}
-use Rattle.lines.specs.Reading.{line-rows, line-number}
+use Rattle.lines.specs.Reading.{longest-line, too-long, line-rows, line-number}
 use Rattle.lines.specs.Session.{Session, is-open, answer, answer-if}
-use Rattle.lines.specs.Machine.{hold}
+use Rattle.lines.specs.Machine.{hold, most-held}
 
-pub eleven : (opened : Bool) (l : Bytes) → 40 < length l → line-number opened l ≡ 11
-unfolding line-number line-rows first-given _if_
-eleven opened l h = cond-true (ltb 40 (length l)) 11 _ (lt-ltb 40 (length l) h)
+pub eleven : (opened : Bool) (l : Bytes) → longest-line < length l → line-number opened l ≡ 11
+unfolding line-number line-rows too-long first-given _if_
+eleven opened l h = cond-true (too-long l) 11 _ (lt-ltb longest-line (length l) h)
 
-refused-long : (s : Session) (i : ℕ) (l : Bytes) → 40 < length l → answer s i l ≡ answer-if 11 s i []
+refused-long : (s : Session) (i : ℕ) (l : Bytes) → longest-line < length l → answer s i l ≡ answer-if 11 s i []
 unfolding answer answer-if
 refused-long s i l h = ap (λ n. answer-if n s i l) (eleven (is-open (s .board)) l h)
 
-pub answer-first : (s : Session) (i : ℕ) (l : Bytes) → answer s i (take 41 l) ≡ answer s i l
-answer-first s i l = go (cmp (length l) 41)
+pub answer-first : (s : Session) (i : ℕ) (l : Bytes) → answer s i (take most-held l) ≡ answer s i l
+unfolding most-held
+answer-first s i l = go (cmp (length l) most-held)
   where
-    go : (length l ≤ 41) ⊎ (41 < length l) → answer s i (take 41 l) ≡ answer s i l
-    go (inl h) = ap (answer s i) (take-all 41 l h)
-    go (inr h) = refused-long s i (take 41 l) (omega (arith, length-take 41 l)) ∙ sym (refused-long s i l (omega arith))
+    go : (length l ≤ most-held) ⊎ (most-held < length l) → answer s i (take most-held l) ≡ answer s i l
+    go (inl h) = ap (answer s i) (take-all most-held l h)
+    go (inr h) = refused-long s i (take most-held l) (omega (arith, length-take most-held l)) ∙ sym (refused-long s i l (omega arith))
 
--- holding a byte keeps the first 41
-pub hold-first : (b : ℕ) (l : Bytes) → hold b (take 41 l) ≡ take 41 (l ++ (b ∷ []))
-unfolding hold
-hold-first b l = go (cmp 41 (length l))
+-- a line takes a further byte up to the first that makes it too long
+pub hold-room : (b : ℕ) (l : Bytes) → length l ≤ longest-line → hold b l ≡ l ++ (b ∷ [])
+unfolding hold too-long
+hold-room b l h = simp le-ltb
+
+pub hold-full : (b : ℕ) (l : Bytes) → longest-line < length l → hold b l ≡ l
+unfolding hold too-long
+hold-full b l h = simp lt-ltb
+
+-- holding a byte keeps the first that are held
+pub hold-first : (b : ℕ) (l : Bytes) → hold b (take most-held l) ≡ take most-held (l ++ (b ∷ []))
+unfolding most-held
+hold-first b l = go (cmp most-held (length l))
   where
-    go : (41 ≤ length l) ⊎ (length l < 41) → cond (leb 41 (length (take 41 l))) (take 41 l) (take 41 l ++ (b ∷ [])) ≡ take 41 (l ++ (b ∷ []))
-    go (inl h) =
-        cond-true (leb 41 (length (take 41 l))) (take 41 l) (take 41 l ++ (b ∷ [])) (le-leb 41 (length (take 41 l)) (omega (arith, length-take 41 l)))
-        ∙ sym (take-append-le 41 l (b ∷ []) h)
+    held : Bytes
+    held = take most-held l
+
+    go : (most-held ≤ length l) ⊎ (length l < most-held) → hold b held ≡ take most-held (l ++ (b ∷ []))
+    go (inl h) = hold-full b held (omega (arith, length-take most-held l)) ∙ sym (take-append-le most-held l (b ∷ []) h)
     go (inr h) =
-        cond-false (leb 41 (length (take 41 l))) (take 41 l) (take 41 l ++ (b ∷ [])) (lt-leb 41 (length (take 41 l)) (omega (arith, length-take 41 l)))
-        ∙ ap (λ (x : Bytes). x ++ (b ∷ [])) (take-all 41 l (omega arith))
-        ∙ sym (take-all 41 (l ++ (b ∷ [])) (let z = length-append l (b ∷ []) in omega arith))
+        hold-room b held (omega (arith, length-take most-held l))
+        ∙ ap (λ (x : Bytes). x ++ (b ∷ [])) (take-all most-held l (omega arith))
+        ∙ sym (take-all most-held (l ++ (b ∷ [])) (let z = length-append l (b ∷ []) in omega arith))

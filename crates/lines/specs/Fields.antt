@@ -1,6 +1,6 @@
 -- Fields read as numbers.
-use mathlib.Core.Bool.{Bool, true, false, cond, _&&_, _||_}
-use mathlib.Core.List.{List, [], _∷_}
+use mathlib.Core.Bool.{Bool, false, cond, _&&_, _||_}
+use mathlib.Core.List.{[], _∷_}
 use Prim.Native.Nat.{ℕ, _+_, _-_, _*_}
 use lib.Dec.{leb, eqb}
 use lib.ListN.{length}
@@ -27,13 +27,20 @@ is-number f = leb 1 (length f) && leb (length f) 10 && every is-digit f && leb (
 unfoldable pub is-blank : Bytes → Bool
 is-blank f = eqb (length f) 0
 
+-- what a field after the first must be
+pub data Kind : Type 0 where
+  a-number : Kind
+  a-grade : Kind
+
 -- 'an A line's grade may be blank'
-unfoldable pub is-grade : Bytes → Bool
-is-grade f = is-blank f || is-number f
+unfoldable pub readable-as : Kind → Bytes → Bool
+readable-as a-number f = is-number f
+readable-as a-grade f = is-blank f || is-number f
 
 -- 'A blank grade is 0.'
-unfoldable pub grade-value : Bytes → ℕ
-grade-value f = cond (is-blank f) 0 (value f)
+unfoldable pub value-as : Kind → Bytes → ℕ
+value-as a-number f = value f
+value-as a-grade f = cond (is-blank f) 0 (value f)
 
 -- a field of one given byte
 unfoldable pub is-letter : ℕ → Bytes → Bool

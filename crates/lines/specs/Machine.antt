@@ -1,12 +1,13 @@
--- The program byte by byte: what it holds between two bytes, and what each byte prints. Of a line the first 41 bytes are enough: a longer one is
+-- The program byte by byte: what it holds between two bytes, and what each byte prints. Of a line that is too long no further byte is held: it is
 -- refused whatever it holds.
 use mathlib.Core.Path.{_≡_}
 use mathlib.Core.Bool.{cond}
 use mathlib.Core.List.{[], _∷_, _++_}
 use Prim.Native.Nat.{ℕ, suc}
-use lib.Dec.{leb, eqb}
+use lib.Dec.{eqb}
 use lib.ListN.{length}
 use Rattle.lines.specs.Bytes.{Bytes, line-end}
+use Rattle.lines.specs.Reading.{longest-line, too-long}
 use Rattle.lines.specs.Session.{Session, new-session, answer, at-end, output}
 
 -- the session, the number of the line that is being read, and its bytes so far
@@ -20,7 +21,11 @@ new-machine = record { session = new-session; number = 1; held = [] }
 
 -- a byte of a line
 unfoldable pub hold : ℕ → Bytes → Bytes
-hold b l = cond (leb 41 (length l)) l (l ++ (b ∷ []))
+hold b l = cond (too-long l) l (l ++ (b ∷ []))
+
+-- so many bytes of a line are held at the most
+unfoldable pub most-held : ℕ
+most-held = suc longest-line
 
 -- a byte printed nothing, or ended a line
 unfoldable pub printed-by : Machine → ℕ → Bytes

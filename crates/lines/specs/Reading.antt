@@ -1,62 +1,100 @@
--- What a line asks for, and rows 11 to 15.
-use mathlib.Core.Bool.{Bool, true, false, not, cond, _&&_, _||_}
+-- The table of line letters, and rows 11 to 15, which are read off it. A further letter is a row of the table and a case of `Request`.
+use mathlib.Core.Bool.{Bool, true, false, not, cond, _&&_}
 use mathlib.Core.List.{List, [], _∷_}
-use Prim.Native.Nat.{ℕ}
+use mathlib.Core.Option.{Option, none, some}
+use Prim.Native.Nat.{ℕ, suc}
 use lib.Dec.{ltb, eqb}
 use lib.ListN.{length, getD}
-use Rattle.lists.specs.Select.{every}
 use Rattle.board.specs.Rows.{Row, _if_, first-given}
 use Rattle.lines.specs.Bytes.{Bytes, fields, letter-A, letter-B, letter-D}
-use Rattle.lines.specs.Fields.{is-number, is-grade, value, grade-value, is-letter}
+use Rattle.lines.specs.Fields.{Kind, a-number, a-grade, readable-as, value-as, is-letter}
 
--- the n-th field of a line, from 0
-unfoldable pub field : ℕ → Bytes → Bytes
-field n l = getD (fields l) n []
-
--- '`D,depth` opens, `A,ticket,wait,grade` admits, `B` closes the slot'
-unfoldable pub is-A : Bytes → Bool
-is-A l = is-letter letter-A (field 0 l)
-
-unfoldable pub is-B : Bytes → Bool
-is-B l = is-letter letter-B (field 0 l)
-
-unfoldable pub is-D : Bytes → Bool
-is-D l = is-letter letter-D (field 0 l)
-
--- 'fields: D has 2, A 4, B 1'
-unfoldable pub fields-wanted : Bytes → ℕ
-fields-wanted l = cond (is-D l) 2 (cond (is-A l) 4 1)
-
--- 'a field after the first is not 1 to 10 decimal digits, or is above 4,294,967,295; an A line's grade may be blank'
-unfoldable pub readable : Bytes → Bool
-readable l =
-    cond (is-D l) (is-number (field 1 l))
-    (cond (is-A l) (is-number (field 1 l) && is-number (field 2 l) && is-grade (field 3 l)) true)
-
--- 'D while a board is open; A or B while none is'
-unfoldable pub out-of-turn : Bool → Bytes → Bool
-out-of-turn opened l = cond (is-D l) opened (not opened)
-
--- rows 11 to 15
-unfoldable pub line-rows : Bool → Bytes → List Row
-line-rows opened l =
-    11 if ltb 40 (length l)
-    ∷ 12 if not (is-A l || is-B l || is-D l)
-    ∷ 13 if not (eqb (length (fields l)) (fields-wanted l))
-    ∷ 14 if not (readable l)
-    ∷ 15 if out-of-turn opened l
-    ∷ []
-
-unfoldable pub line-number : Bool → Bytes → ℕ
-line-number opened l = first-given (line-rows opened l)
-
--- what a line asks for that none of these rows refuses
+-- what a line asks for that none of rows 11 to 15 refuses
 pub data Request : Type 0 where
   open-board : (depth : ℕ) → Request
   admit-job : (ticket laxity grade : ℕ) → Request
   close-slot : Request
 
+-- a request that is still to be given a value for each of these fields
+abbrev pub Asks : List Kind → Type 0
+Asks [] = Request
+Asks (k ∷ ks) = ℕ → Asks ks
+
+-- A row of the table: a letter; the fields after it; whether the line is for a board that is open, or comes while none is; and what it asks for with
+-- the values of these fields.
+pub record Form : Type 0 where
+  pub letter : ℕ
+  pub after : List Kind
+  pub for-open : Bool
+  pub asks : Asks after
+
+-- '`D,depth` opens, `A,ticket,wait,grade` admits, `B` closes the slot'
+unfoldable pub forms : List Form
+forms =
+    record { letter = letter-D; after = a-number ∷ []; for-open = false; asks = open-board }
+    ∷ record { letter = letter-A; after = a-number ∷ a-number ∷ a-grade ∷ []; for-open = true; asks = admit-job }
+    ∷ record { letter = letter-B; after = []; for-open = true; asks = close-slot }
+    ∷ []
+
+-- the row of a first field: none where the field is no letter of the table
+unfoldable pub form-in : List Form → Bytes → Option Form
+form-in [] f = none
+form-in (r ∷ rows) f = cond (is-letter (r .letter) f) (some r) (form-in rows f)
+
+-- the n-th field of a line, from 0
+unfoldable pub field : ℕ → Bytes → Bytes
+field n l = getD (fields l) n []
+
+unfoldable pub form-of : Bytes → Option Form
+form-of l = form-in forms (field 0 l)
+
+-- row 11: 'more than 40 bytes, the end of line not counted'. The 40 is the constant `LONGEST_LINE` of crate reading, which proves them equal.
+unfoldable pub longest-line : ℕ
+longest-line = 40
+
+unfoldable pub too-long : Bytes → Bool
+too-long l = ltb longest-line (length l)
+
+-- row 13: 'fields: D has 2, A 4, B 1'
+unfoldable pub fields-wanted : Form → ℕ
+fields-wanted r = suc (length (r .after))
+
+-- Row 14: 'a field after the first is not 1 to 10 decimal digits, or is above 4,294,967,295; an A line's grade may be blank'. The fields are of these
+-- kinds, from the n-th on.
+unfoldable pub readable : List Kind → ℕ → Bytes → Bool
+readable [] n l = true
+readable (k ∷ ks) n l = readable-as k (field n l) && readable ks (suc n) l
+
+-- row 15: 'D while a board is open; A or B while none is'
+unfoldable pub out-of-turn : (for-open opened : Bool) → Bool
+out-of-turn false opened = opened
+out-of-turn true opened = not opened
+
+-- row 12: 'first field is not A, B or D'; rows 13 to 15 by the letter's row of the table
+unfoldable pub form-rows : Option Form → Bool → Bytes → List Row
+form-rows none opened l = 12 if true ∷ []
+form-rows (some r) opened l =
+    13 if not (eqb (length (fields l)) (fields-wanted r))
+    ∷ 14 if not (readable (r .after) 1 l)
+    ∷ 15 if out-of-turn (r .for-open) opened
+    ∷ []
+
+-- rows 11 to 15
+unfoldable pub line-rows : Bool → Bytes → List Row
+line-rows opened l = 11 if too-long l ∷ form-rows (form-of l) opened l
+
+unfoldable pub line-number : Bool → Bytes → ℕ
+line-number opened l = first-given (line-rows opened l)
+
+-- a request with the values of its fields, from the n-th on
+unfoldable pub with-values : (ks : List Kind) → Asks ks → ℕ → Bytes → Request
+with-values [] q n l = q
+with-values (k ∷ ks) q n l = with-values ks (q (value-as k (field n l))) (suc n) l
+
+-- what a line of this form asks for; where there is no form row 12 refuses the line, and no one looks at this
+unfoldable pub request-by : Option Form → Bytes → Request
+request-by none l = close-slot
+request-by (some r) l = with-values (r .after) (r .asks) 1 l
+
 unfoldable pub request : Bytes → Request
-request l =
-    cond (is-D l) (open-board (value (field 1 l)))
-    (cond (is-A l) (admit-job (value (field 1 l)) (value (field 2 l)) (grade-value (field 3 l))) close-slot)
+request l = request-by (form-of l) l

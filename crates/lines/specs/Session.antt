@@ -70,13 +70,16 @@ answer-close s b i =
     })
     (refused s i (r .refusal))
 
--- A request that rows 11 to 15 let through. Without a board these let only an opening through.
+-- what is answered on the board that is open; rows 11 to 15 let no line that needs one through while none is, so that case never comes up
+unfoldable pub on-board : Session → Option Board → (Board → Answer) → Answer
+on-board s none f = record { output = []; session = s }
+on-board s (some b) f = f b
+
+-- a request that rows 11 to 15 let through
 unfoldable pub answer-request : Session → Option Board → (line : ℕ) → Request → Answer
 answer-request s o i (open-board d) = answer-open s i d
-answer-request s none i (admit-job t w g) = refused s i 15
-answer-request s (some b) i (admit-job t w g) = answer-admit s b i t w g
-answer-request s none i close-slot = refused s i 15
-answer-request s (some b) i close-slot = answer-close s b i
+answer-request s o i (admit-job t w g) = on-board s o (λ b. answer-admit s b i t w g)
+answer-request s o i close-slot = on-board s o (λ b. answer-close s b i)
 
 -- 'the line rows, 11 to 15, come before those of the call that the line makes'
 unfoldable pub answer-if : ℕ → Session → (line : ℕ) → Bytes → Answer

@@ -9,7 +9,7 @@ use Rattle.lists.specs.Select.{every}
 use Rattle.board.specs.Tally.{tally-grades}
 use Rattle.lines.specs.Bytes.{Bytes, line-end}
 use Rattle.lines.specs.Session.{Answer, answer}
-use Rattle.lines.specs.Machine.{Machine, new-machine, hold, after-bytes, printed-along}
+use Rattle.lines.specs.Machine.{Machine, new-machine, hold, most-held, after-bytes, printed-along}
 use Rattle.printing.specs.Lines.{room, put}
 use Rattle.program.specs.declared.feed.Held.{Held}
 use Rattle.program.specs.declared.feed.Desk.{Desk}
@@ -28,7 +28,7 @@ pub record NewDesk (k : Desk) : Type 0 where
   pub good : GoodDay (k .day)
   pub machine : machine-of k ≡ new-machine
   pub number : k .number ≡ 1
-  pub held : k .held .len ≤ 41
+  pub held : k .held .len ≤ most-held
 
 -- the bytes of the chunk from `from` up to where it was used
 unfoldable pub used-bytes : Bytes → ℕ → ℕ → Bytes
@@ -49,7 +49,7 @@ hold-all l (b ∷ bs) = hold-all (hold b l) bs
 -- a part of a chunk taken in: the machine is the definition's, and so are the bytes printed, put at `at` in the buffer
 pub record TakenIn (desk : Desk) (chunk : Bytes) (from : ℕ) (out : Bytes) (at : ℕ) (r : Fed) (out' : Bytes) : Type 0 where
   pub good : GoodDay (r .desk .day)
-  pub held : r .desk .held .len ≤ 41
+  pub held : r .desk .held .len ≤ most-held
   pub forward : from ≤ r .used
   pub inside : r .used ≤ length chunk
   pub number : r .desk .number + from ≤ desk .number + r .used

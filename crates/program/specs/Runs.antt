@@ -6,7 +6,7 @@ use Prim.Native.Nat.{ℕ, _+_, _*_, _^_, _≤_, _<_}
 use lib.ListN.{length}
 use Rattle.lines.specs.Bytes.{Bytes}
 use Rattle.lines.specs.Session.{output}
-use Rattle.lines.specs.Machine.{new-machine, after-bytes, printed-along}
+use Rattle.lines.specs.Machine.{most-held, new-machine, after-bytes, printed-along}
 use Rattle.program.specs.declared.feed.Desk.{Desk}
 use Rattle.program.specs.declared.run.Ended.{Ended}
 use Rattle.program.specs.declared.run.Ended.the-variants.{Whole, ReadFailed, WriteFailed, TooLong}
@@ -26,7 +26,7 @@ buffer-length = 65_536
 -- A chunk taken in. All that it prints was written, or else a part.
 pub record ChunkTaken (desk : Desk) (chunk : Bytes) (r : Taken) : Type 0 where
   pub good : GoodDay (r .desk .day)
-  pub held : r .desk .held .len ≤ 41
+  pub held : r .desk .held .len ≤ most-held
   pub number : r .desk .number ≤ desk .number + length chunk
   pub few : r .written ≤ line-room * length chunk
   pub machine : r .whole ≡ true → machine-of (r .desk) ≡ after-bytes (machine-of desk) chunk

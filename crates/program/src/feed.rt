@@ -1,10 +1,10 @@
-// Bytes taken in: lines of any length, of which the first 41 bytes are held.
+// Bytes taken in: lines of any length, of which so many bytes are held that one too long is known.
 ghost use mathlib.Core.Path.{_≡_};
 ghost use Prim.Native.Nat.{_+_, _*_, _≤_, _<_, _^_};
 ghost use lib.ListN.{length};
 ghost use Rattle.board.specs.Tally.{tally-kinds, tally-grades, count-at};
 ghost use Rattle.lines.specs.Session.{printed-tally};
-ghost use Rattle.lines.specs.Machine.{printed-at-end};
+ghost use Rattle.lines.specs.Machine.{most-held, printed-at-end};
 ghost use Rattle.printing.specs.Lines.{room};
 ghost use Rattle.program.specs.Days.{GoodDay, line-room, Given};
 ghost use Rattle.program.specs.Machines.{NewDesk, held-bytes, machine-of, used-bytes, LineEnds, hold-all, TakenIn, GoesOn, end-room, last-answer, PutAt};
@@ -15,7 +15,7 @@ use board::Board;
 use board::Tally;
 use printing::Line;
 
-// The bytes of a line so far, the first 41 at the most.
+// The bytes of a line so far, as many as there is room for.
 pub struct Held {
     pub bytes: [u8; Held::ROOM],
     pub len: usize,
@@ -23,7 +23,7 @@ pub struct Held {
 
 impl Held {
     // One more than a line may have.
-    pub const ROOM: usize = 41;
+    pub const ROOM: usize = reading::LONGEST_LINE + 1;
 }
 
 // What the program holds between two bytes: the day, the number of the line that is being read, and its bytes so far.
@@ -83,8 +83,8 @@ fn line_end(chunk: &[u8], from: usize) -> usize
 
 // The line with the chunk's bytes from `from` up to `to` as well, as far as there is room.
 fn hold_part(h: Held, chunk: &[u8], from: usize, to: usize) -> Held
-    requires { ⌜ (h .len ≤ 41) × (from ≤ to) × (to ≤ length (now chunk)) ⌝ }
-    ensures { λ r. ⌜ (r .len ≤ 41) × (held-bytes r ≡ hold-all (held-bytes h) (used-bytes (now (chunk .entry)) from to)) ⌝ }
+    requires { ⌜ (h .len ≤ most-held) × (from ≤ to) × (to ≤ length (now chunk)) ⌝ }
+    ensures { λ r. ⌜ (r .len ≤ most-held) × (held-bytes r ≡ hold-all (held-bytes h) (used-bytes (now (chunk .entry)) from to)) ⌝ }
 {
     let mut held = h;
     let mut i = from;
@@ -102,7 +102,7 @@ fn hold_part(h: Held, chunk: &[u8], from: usize, to: usize) -> Held
 // Takes in the chunk's bytes from `from` on, line by line, while the buffer has room for what a line may print.
 pub(crate) fn feed(desk: Desk, chunk: &[u8], from: usize, out: &mut [u8], at: usize) -> Fed
     requires { ⌜ GoodDay (desk .day) ⌝ }
-    requires { ⌜ (desk .held .len ≤ 41) × (from ≤ length (now chunk)) × (at ≤ length (now out)) ⌝ }
+    requires { ⌜ (desk .held .len ≤ most-held) × (from ≤ length (now chunk)) × (at ≤ length (now out)) ⌝ }
     requires { ⌜ desk .number + length (now chunk) < from + 2 ^ 63 ⌝ }
     ensures { λ r. ⌜ TakenIn desk (now (chunk .entry)) from (now (out .entry)) at r (now (out .exit)) ⌝ }
     ensures { λ r. ⌜ GoesOn (now (chunk .entry)) from (now (out .entry)) at r ⌝ }
@@ -138,7 +138,7 @@ pub(crate) fn feed(desk: Desk, chunk: &[u8], from: usize, out: &mut [u8], at: us
 // Answers a line that has begun.
 fn last_line(desk: Desk, out: &mut [u8], at: usize) -> Said
     requires { ⌜ GoodDay (desk .day) ⌝ }
-    requires { ⌜ (desk .held .len ≤ 41) × (at + line-room ≤ length (now out)) ⌝ }
+    requires { ⌜ (desk .held .len ≤ most-held) × (at + line-room ≤ length (now out)) ⌝ }
     ensures { λ r. ⌜ Given (last-answer (machine-of desk)) (now (out .entry)) at r (now (out .exit)) ⌝ }
 {
     let day = desk.day;
@@ -181,7 +181,7 @@ fn say_tally(t: Tally, grades: usize, out: &mut [u8], at: usize) -> usize
 // The end of input: a line that has begun is answered, and the tally of an open board is printed.
 pub(crate) fn finish(desk: Desk, out: &mut [u8], at: usize) -> usize
     requires { ⌜ GoodDay (desk .day) ⌝ }
-    requires { ⌜ (desk .held .len ≤ 41) × (at + end-room ≤ length (now out)) ⌝ }
+    requires { ⌜ (desk .held .len ≤ most-held) × (at + end-room ≤ length (now out)) ⌝ }
     ensures { λ r. ⌜ PutAt (printed-at-end (machine-of desk)) (now (out .entry)) at r (now (out .exit)) ⌝ }
 {
     let said = last_line(desk, out, at);

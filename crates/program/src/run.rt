@@ -2,6 +2,7 @@
 ghost use mathlib.Core.Path.{_≡_};
 ghost use Prim.Native.Nat.{_+_, _≤_, _<_, _^_};
 ghost use lib.ListN.{length};
+ghost use Rattle.lines.specs.Machine.{most-held};
 ghost use Rattle.program.specs.Days.{GoodDay};
 ghost use Rattle.program.specs.Runs.{buffer-length, ChunkTaken, Stopped, Ran};
 ghost use Rattle.program.specs.declared.run.Ended.the-variants.{WriteFailed, TooLong};
@@ -42,7 +43,7 @@ pub struct Taken {
 // Takes in a whole chunk, and writes what it prints whenever the buffer has no room for a line more, and at its end.
 fn take_in(d: Desk, chunk: &[u8], out: &mut [u8]) -> Taken
     requires { ⌜ GoodDay (d .day) ⌝ }
-    requires { ⌜ (d .held .len ≤ 41) × (d .number + length (now chunk) < 2 ^ 63) ⌝ }
+    requires { ⌜ (d .held .len ≤ most-held) × (d .number + length (now chunk) < 2 ^ 63) ⌝ }
     requires { ⌜ (length (now chunk) ≤ buffer-length) × (length (now out) ≡ buffer-length) ⌝ }
     ensures { λ r. ⌜ ChunkTaken d (now (chunk .entry)) r ⌝ }
 {
@@ -101,7 +102,7 @@ fn too_long(read: u64, written: u64) -> Outcome
 // The end of input: writes what is left to print.
 fn finish(desk: Desk, out: &mut [u8], read: u64, written: u64) -> Outcome
     requires { ⌜ GoodDay (desk .day) ⌝ }
-    requires { ⌜ (desk .held .len ≤ 41) × (length (now out) ≡ buffer-length) × (written < 2 ^ 63) ⌝ }
+    requires { ⌜ (desk .held .len ≤ most-held) × (length (now out) ≡ buffer-length) × (written < 2 ^ 63) ⌝ }
     ensures { λ r. ⌜ Stopped desk read written r ⌝ }
 {
     let end = feed::finish(desk, out, 0);
@@ -120,7 +121,7 @@ fn finish(desk: Desk, out: &mut [u8], read: u64, written: u64) -> Outcome
 // A read gave no bytes: it is the end of input, or it has failed, which is said, and then neither the line that has begun nor the tally is printed.
 fn stop(got: Got, desk: Desk, out: &mut [u8], read: u64, written: u64) -> Outcome
     requires { ⌜ GoodDay (desk .day) ⌝ }
-    requires { ⌜ (desk .held .len ≤ 41) × (length (now out) ≡ buffer-length) × (written < 2 ^ 63) ⌝ }
+    requires { ⌜ (desk .held .len ≤ most-held) × (length (now out) ≡ buffer-length) × (written < 2 ^ 63) ⌝ }
     ensures { λ r. ⌜ Stopped desk read written r ⌝ }
 {
     let Got::End = got else {

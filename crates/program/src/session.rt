@@ -15,7 +15,7 @@ use board::Laxity;
 use board::Tally;
 use calls::admit;
 use calls::close;
-use reading::Reading;
+use reading::Asked;
 
 // The board, if one is open, and the tally.
 pub struct Day {
@@ -83,7 +83,7 @@ fn admit_line(
     day: Day,
     line: u64,
     ticket: u32,
-    laxity: u32,
+    laxity: Laxity,
     grade: u32,
     out: &mut [u8],
     at: usize,
@@ -91,10 +91,10 @@ fn admit_line(
     requires { ⌜ GoodDay day ⌝ }
     requires { ⌜ day .opened ≡ true ⌝ }
     requires { ⌜ at + line-room ≤ length (now out) ⌝ }
-    ensures { λ r. ⌜ Given (answer-admit (session-of day) (day .board) line ticket laxity grade) (now (out .entry)) at r (now (out .exit)) ⌝ }
+    ensures { λ r. ⌜ Given (answer-admit (session-of day) (day .board) line ticket (laxity .0) grade) (now (out .entry)) at r (now (out .exit)) ⌝ }
 {
     let b = day.board;
-    let a = admit::admit_in_limits(b, ticket, Laxity(laxity), grade);
+    let a = admit::admit_in_limits(b, ticket, laxity, grade);
     if a.refusal != 0 {
         return refuse(day, line, a.refusal, out, at);
     }
@@ -201,8 +201,8 @@ pub(crate) fn answer_line(day: Day, number: u64, line: &[u8], out: &mut [u8], at
 {
     let asked = reading::read_line(line, day.opened);
     match asked {
-        Reading::Open(depth) => open_line(day, number, depth, out, at),
-        Reading::Admit(ticket, laxity, grade) => admit_line(
+        Asked::Open(depth) => open_line(day, number, depth, out, at),
+        Asked::Admit(ticket, laxity, grade) => admit_line(
             day,
             number,
             ticket,
@@ -211,7 +211,7 @@ pub(crate) fn answer_line(day: Day, number: u64, line: &[u8], out: &mut [u8], at
             out,
             at,
         ),
-        Reading::Close => close_line(day, number, out, at),
-        Reading::Refused(n) => refuse(day, number, n, out, at),
+        Asked::Close => close_line(day, number, out, at),
+        Asked::Refused(n) => refuse(day, number, n, out, at),
     }
 }

@@ -1,5 +1,5 @@
 -- A field of digits, one byte further, and when it is a number.
-use mathlib.Core.Path.{_≡_, refl, sym, ap}
+use mathlib.Core.Path.{_≡_, refl, ap}
 use mathlib.Core.Bool.{Bool, true, false, _&&_}
 use Prim.Native.Nat.{ℕ, _+_, _-_, _*_, _^_, _≤_, _<_}
 use native.Mathlib.Numerals.{add-one}
@@ -9,11 +9,13 @@ use lib.Dec.{leb}
 use lib.ListN.{length, getD, drop}
 use borrow.Author.Tests.{leb-true, le-leb, lt-leb, ne-eqb}
 use Rattle.lists.specs.Select.{every}
-use Rattle.lists.proofs.Tests.{and-left, and-right, cond-false}
+use Rattle.lists.proofs.Tests.{and-left, and-right}
+use Rattle.board.specs.Rows.{_if_, first-given}
 use Rattle.lines.specs.Bytes.{Bytes}
-use Rattle.lines.specs.Fields.{is-digit, value-after, value, is-number, is-grade, is-blank, grade-value}
+use Rattle.lines.specs.Fields.{is-digit, value-after, value, is-number, is-blank, a-number, a-grade, readable-as, value-as}
 use Rattle.reading.specs.declared.numbers.Field.the-variants.{Number, Bad}
-use Rattle.reading.specs.Parts.{number-field, grade-field}
+use Rattle.reading.specs.Answers.{result}
+use Rattle.reading.specs.Parts.{unless, field-result, field-read}
 use Rattle.reading.proofs.Commas.{step}
 
 pub digit-bounds : (b : ℕ) → is-digit b ≡ true → (48 ≤ b) × (b ≤ 57)
@@ -46,35 +48,36 @@ no-right true b h = h
 no-right false b h = refl
 
 module _ (f : Bytes) where
-  no-number : is-number f ≡ false → Bad ≡ number-field f
-  unfolding number-field
-  no-number h = sym (cond-false (is-number f) _ _ h)
+  no-number : is-number f ≡ false → field-result Bad ≡ field-read a-number f
+  unfolding field-result field-read readable-as unless first-given _if_ result
+  no-number h = simp h
 
-  pub too-short : length f < 1 → Bad ≡ number-field f
+  pub too-short : length f < 1 → field-result Bad ≡ field-read a-number f
   unfolding is-number
   too-short h = no-number (no-left _ _ (no-left _ _ (no-left _ _ (lt-leb 1 (length f) h))))
 
-  pub too-long : 10 < length f → Bad ≡ number-field f
+  pub too-long : 10 < length f → field-result Bad ≡ field-read a-number f
   unfolding is-number
   too-long h = no-number (no-left _ _ (no-left _ _ (no-right (leb 1 (length f)) _ (lt-leb (length f) 10 h))))
 
-  pub no-digits : every is-digit f ≡ false → Bad ≡ number-field f
+  pub no-digits : every is-digit f ≡ false → field-result Bad ≡ field-read a-number f
   unfolding is-number
   no-digits h = no-number (no-left _ _ (no-right (leb 1 (length f) && leb (length f) 10) _ h))
 
-  pub too-great : 4_294_967_295 < value f → Bad ≡ number-field f
+  pub too-great : 4_294_967_295 < value f → field-result Bad ≡ field-read a-number f
   unfolding is-number
   too-great h = no-number (no-right (leb 1 (length f) && leb (length f) 10 && every is-digit f) _ (lt-leb (value f) 4_294_967_295 h))
 
-  pub a-number : 1 ≤ length f → length f ≤ 10 → every is-digit f ≡ true → value f ≤ 4_294_967_295 → Number (value f) ≡ number-field f
-  unfolding is-number number-field
-  a-number h k e g = simp (le-leb 1 (length f) h, le-leb (length f) 10 k, e, le-leb (value f) 4_294_967_295 g)
+  pub in-range : 1 ≤ length f → length f ≤ 10 → every is-digit f ≡ true → value f ≤ 4_294_967_295
+      → field-result (Number (value f)) ≡ field-read a-number f
+  unfolding is-number field-result field-read readable-as value-as unless first-given _if_ result
+  in-range h k e g = simp (le-leb 1 (length f) h, le-leb (length f) 10 k, e, le-leb (value f) 4_294_967_295 g)
 
   -- a blank grade is 0, and any other a number
-  pub blank-grade : length f ≡ 0 → Number 0 ≡ grade-field f
-  unfolding grade-field is-grade is-blank grade-value
+  pub blank-grade : length f ≡ 0 → field-result (Number 0) ≡ field-read a-grade f
+  unfolding field-result field-read readable-as value-as is-blank unless first-given _if_ result
   blank-grade h = simp h
 
-  pub some-grade : (length f ≡ 0 → ⊥) → number-field f ≡ grade-field f
-  unfolding number-field grade-field is-grade is-blank grade-value
+  pub some-grade : (length f ≡ 0 → ⊥) → field-read a-number f ≡ field-read a-grade f
+  unfolding field-read readable-as value-as is-blank
   some-grade h = simp (ne-eqb (length f) 0 h)

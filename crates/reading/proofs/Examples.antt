@@ -2,71 +2,71 @@
 use mathlib.Core.Path.{_≡_, refl}
 use mathlib.Core.Bool.{true, false}
 use mathlib.Core.List.{[], _∷_}
+use mathlib.Core.Option.{none, some}
 use lib.ListN.{replicate}
 use Rattle.lists.specs.Select.{every}
 use Rattle.board.specs.Rows.{_if_, first-given}
 use Rattle.lines.specs.Bytes.{fields, onto-first, comma, letter-A, letter-B, letter-D}
-use Rattle.lines.specs.Fields.{is-letter, is-number, is-grade, is-blank, is-digit, value, value-after, grade-value}
-use Rattle.lines.specs.Reading.{line-number, line-rows, request, readable, out-of-turn, fields-wanted, is-A, is-B, is-D, field}
-use Rattle.reading.specs.declared.Reading.the-variants.{Open, Admit, Close, Refused}
-use Rattle.reading.specs.Answers.{reading, asked-or-refused, asked}
+use Rattle.lines.specs.Fields.{is-letter, is-number, readable-as, value-as, is-blank, is-digit, value, value-after}
+use Rattle.lines.specs.Reading.{open-board, admit-job, close-slot, forms, form-in, field, form-of, longest-line, too-long, fields-wanted, readable, out-of-turn, form-rows, line-rows, line-number, with-values, request-by, request}
+use Rattle.reading.specs.Answers.{result, line-result}
 
 examples :
     -- `B` while a board is open
-    (reading true (66 ∷ []) ≡ Close) ×
+    (line-result true (66 ∷ []) ≡ (0, some close-slot)) ×
     -- `B` while none is
-    (reading false (66 ∷ []) ≡ Refused 15) ×
+    (line-result false (66 ∷ []) ≡ (15, none)) ×
     -- `B,`: a second field, though blank
-    (reading true (66 ∷ 44 ∷ []) ≡ Refused 13) ×
+    (line-result true (66 ∷ 44 ∷ []) ≡ (13, none)) ×
     -- `D`: one field too few
-    (reading false (68 ∷ []) ≡ Refused 13) ×
+    (line-result false (68 ∷ []) ≡ (13, none)) ×
     -- `D,01`: leading zeros are allowed
-    (reading false (68 ∷ 44 ∷ 48 ∷ 49 ∷ []) ≡ Open 1) ×
+    (line-result false (68 ∷ 44 ∷ 48 ∷ 49 ∷ []) ≡ (0, some (open-board 1))) ×
     -- `D,9`: the depth is read, and row 1 is the board's
-    (reading false (68 ∷ 44 ∷ 57 ∷ []) ≡ Open 9) ×
+    (line-result false (68 ∷ 44 ∷ 57 ∷ []) ≡ (0, some (open-board 9))) ×
     -- `D,9` while a board is open
-    (reading true (68 ∷ 44 ∷ 57 ∷ []) ≡ Refused 15) ×
+    (line-result true (68 ∷ 44 ∷ 57 ∷ []) ≡ (15, none)) ×
     -- `D,`: a blank depth, row 14 before row 15
-    (reading true (68 ∷ 44 ∷ []) ≡ Refused 14) ×
+    (line-result true (68 ∷ 44 ∷ []) ≡ (14, none)) ×
     -- `A,1,1,`: a blank grade is 0
-    (reading true (65 ∷ 44 ∷ 49 ∷ 44 ∷ 49 ∷ 44 ∷ []) ≡ Admit 1 1 0) ×
+    (line-result true (65 ∷ 44 ∷ 49 ∷ 44 ∷ 49 ∷ 44 ∷ []) ≡ (0, some (admit-job 1 1 0))) ×
     -- `A,12,3,4`: the values in their order
-    (reading true (65 ∷ 44 ∷ 49 ∷ 50 ∷ 44 ∷ 51 ∷ 44 ∷ 52 ∷ []) ≡ Admit 12 3 4) ×
+    (line-result true (65 ∷ 44 ∷ 49 ∷ 50 ∷ 44 ∷ 51 ∷ 44 ∷ 52 ∷ []) ≡ (0, some (admit-job 12 3 4))) ×
     -- `A,,1,0`: a blank ticket
-    (reading true (65 ∷ 44 ∷ 44 ∷ 49 ∷ 44 ∷ 48 ∷ []) ≡ Refused 14) ×
+    (line-result true (65 ∷ 44 ∷ 44 ∷ 49 ∷ 44 ∷ 48 ∷ []) ≡ (14, none)) ×
     -- `A,1,,0`: a blank laxity
-    (reading true (65 ∷ 44 ∷ 49 ∷ 44 ∷ 44 ∷ 48 ∷ []) ≡ Refused 14) ×
+    (line-result true (65 ∷ 44 ∷ 49 ∷ 44 ∷ 44 ∷ 48 ∷ []) ≡ (14, none)) ×
     -- `A,1,1,x`: a grade that is no number
-    (reading true (65 ∷ 44 ∷ 49 ∷ 44 ∷ 49 ∷ 44 ∷ 120 ∷ []) ≡ Refused 14) ×
+    (line-result true (65 ∷ 44 ∷ 49 ∷ 44 ∷ 49 ∷ 44 ∷ 120 ∷ []) ≡ (14, none)) ×
     -- `A,x`: row 13 before row 14
-    (reading true (65 ∷ 44 ∷ 120 ∷ []) ≡ Refused 13) ×
+    (line-result true (65 ∷ 44 ∷ 120 ∷ []) ≡ (13, none)) ×
     -- `A,1,1,0` while no board is open
-    (reading false (65 ∷ 44 ∷ 49 ∷ 44 ∷ 49 ∷ 44 ∷ 48 ∷ []) ≡ Refused 15) ×
+    (line-result false (65 ∷ 44 ∷ 49 ∷ 44 ∷ 49 ∷ 44 ∷ 48 ∷ []) ≡ (15, none)) ×
     -- an empty line
-    (reading true [] ≡ Refused 12) ×
+    (line-result true [] ≡ (12, none)) ×
     -- `a`: a small letter
-    (reading true (97 ∷ []) ≡ Refused 12) ×
+    (line-result true (97 ∷ []) ≡ (12, none)) ×
     -- `a,1,1`: row 12 before row 13
-    (reading true (97 ∷ 44 ∷ 49 ∷ 44 ∷ 49 ∷ []) ≡ Refused 12) ×
+    (line-result true (97 ∷ 44 ∷ 49 ∷ 44 ∷ 49 ∷ []) ≡ (12, none)) ×
     -- `B\r`: a carriage return is a byte like any other
-    (reading true (66 ∷ 13 ∷ []) ≡ Refused 12) ×
+    (line-result true (66 ∷ 13 ∷ []) ≡ (12, none)) ×
     -- `,B`: a comma first
-    (reading true (44 ∷ 66 ∷ []) ≡ Refused 12) ×
+    (line-result true (44 ∷ 66 ∷ []) ≡ (12, none)) ×
     -- `A,1,1,` and zeros: forty bytes pass row 11, and thirty-four digits fail row 14
-    (reading true (65 ∷ 44 ∷ 49 ∷ 44 ∷ 49 ∷ 44 ∷ replicate 34 48) ≡ Refused 14) ×
+    (line-result true (65 ∷ 44 ∷ 49 ∷ 44 ∷ 49 ∷ 44 ∷ replicate 34 48) ≡ (14, none)) ×
     -- one zero more
-    (reading true (65 ∷ 44 ∷ 49 ∷ 44 ∷ 49 ∷ 44 ∷ replicate 35 48) ≡ Refused 11) ×
+    (line-result true (65 ∷ 44 ∷ 49 ∷ 44 ∷ 49 ∷ 44 ∷ replicate 35 48) ≡ (11, none)) ×
     -- `D,0000000003`: ten digits
-    (reading false (68 ∷ 44 ∷ 48 ∷ 48 ∷ 48 ∷ 48 ∷ 48 ∷ 48 ∷ 48 ∷ 48 ∷ 48 ∷ 51 ∷ []) ≡ Open 3) ×
+    (line-result false (68 ∷ 44 ∷ 48 ∷ 48 ∷ 48 ∷ 48 ∷ 48 ∷ 48 ∷ 48 ∷ 48 ∷ 48 ∷ 51 ∷ []) ≡ (0, some (open-board 3))) ×
     -- `D,00000000003`: eleven digits
-    (reading false (68 ∷ 44 ∷ 48 ∷ 48 ∷ 48 ∷ 48 ∷ 48 ∷ 48 ∷ 48 ∷ 48 ∷ 48 ∷ 48 ∷ 51 ∷ []) ≡ Refused 14) ×
+    (line-result false (68 ∷ 44 ∷ 48 ∷ 48 ∷ 48 ∷ 48 ∷ 48 ∷ 48 ∷ 48 ∷ 48 ∷ 48 ∷ 48 ∷ 51 ∷ []) ≡ (14, none)) ×
     -- `D,4294967295`: the greatest number
-    (reading false (68 ∷ 44 ∷ 52 ∷ 50 ∷ 57 ∷ 52 ∷ 57 ∷ 54 ∷ 55 ∷ 50 ∷ 57 ∷ 53 ∷ []) ≡ Open 4_294_967_295) ×
+    (line-result false (68 ∷ 44 ∷ 52 ∷ 50 ∷ 57 ∷ 52 ∷ 57 ∷ 54 ∷ 55 ∷ 50 ∷ 57 ∷ 53 ∷ []) ≡ (0, some (open-board 4_294_967_295))) ×
     -- `D,4294967296`: one more
-    (reading false (68 ∷ 44 ∷ 52 ∷ 50 ∷ 57 ∷ 52 ∷ 57 ∷ 54 ∷ 55 ∷ 50 ∷ 57 ∷ 54 ∷ []) ≡ Refused 14) ×
+    (line-result false (68 ∷ 44 ∷ 52 ∷ 50 ∷ 57 ∷ 52 ∷ 57 ∷ 54 ∷ 55 ∷ 50 ∷ 57 ∷ 54 ∷ []) ≡ (14, none)) ×
     -- `D,-1`: a sign
-    (reading false (68 ∷ 44 ∷ 45 ∷ 49 ∷ []) ≡ Refused 14) ×
+    (line-result false (68 ∷ 44 ∷ 45 ∷ 49 ∷ []) ≡ (14, none)) ×
     -- `D, 1`: a space
-    (reading false (68 ∷ 44 ∷ 32 ∷ 49 ∷ []) ≡ Refused 14)
-unfolding reading asked-or-refused asked line-number line-rows first-given _if_ request readable out-of-turn fields-wanted is-A is-B is-D field fields onto-first comma letter-A letter-B letter-D is-letter is-number is-grade is-blank is-digit value value-after grade-value every
+    (line-result false (68 ∷ 44 ∷ 32 ∷ 49 ∷ []) ≡ (14, none))
+unfolding line-result result line-number line-rows first-given _if_ too-long longest-line form-of form-in forms form-rows fields-wanted readable out-of-turn with-values request-by request field fields onto-first comma letter-A letter-B letter-D is-letter is-number readable-as value-as is-blank is-digit value value-after every
 examples = (refl, refl, refl, refl, refl, refl, refl, refl, refl, refl, refl, refl, refl, refl, refl, refl, refl, refl, refl, refl, refl, refl, refl, refl, refl, refl, refl, refl)

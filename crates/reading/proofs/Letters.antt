@@ -1,60 +1,79 @@
--- What a first field's answer says of its bytes.
+-- What a first field's answer says of its bytes and of the table.
 use mathlib.Core.Path.{_≡_, refl, sym, ap, _∙_}
 use mathlib.Core.List.{[], _∷_}
-use mathlib.Core.Bool.{Bool, true, false, cond, _||_}
+use mathlib.Core.Bool.{Bool, true, false}
 use mathlib.Core.Logic.{_⊎_, inl, inr}
+use mathlib.Core.Option.{Option, none, some}
 use Prim.Native.Nat.{ℕ}
 use native.Mathlib.Omega.{arith}
 use lib.Dec.{eqb}
 use lib.ListN.{length, getD}
-use Rattle.lists.proofs.Tests.{test, cond-true, cond-false}
+use borrow.Author.Tests.{ne-eqb}
+use Rattle.lists.proofs.Tests.{test}
+use Rattle.board.specs.Rows.{_if_, first-given}
 use Rattle.lines.specs.Bytes.{Bytes, letter-A, letter-B, letter-D}
 use Rattle.lines.specs.Fields.{is-letter}
+use Rattle.lines.specs.Reading.{Form, forms, form-in, fields-wanted, readable, with-values, request-by}
+use Rattle.lines.proofs.InTurn.{Every, found}
 use Rattle.reading.specs.declared.Letter.the-variants.{Is, Other}
-use Rattle.reading.specs.Parts.{letter-field}
-
--- one of the three letters
-unfoldable pub known : ℕ → Bool
-known c = eqb c letter-A || eqb c letter-B || eqb c letter-D
+use Rattle.reading.specs.declared.Asked.the-variants.{Close}
+use Rattle.reading.specs.Answers.{asked-result, result}
+use Rattle.reading.specs.Parts.{letter-result, form-result, letter-read, unless, fields-read, form-read, after-letter}
+use Rattle.reading.proofs.Results.{not-both, values-given}
 
 -- a field of one byte is judged by that byte, and any other field is no letter
-one-byte : (f : Bytes) → length f ≡ 1 → letter-field f ≡ cond (known (getD f 0 0)) (Is (getD f 0 0)) Other
-unfolding letter-field is-letter known
+pub one-byte : (f : Bytes) → length f ≡ 1 → letter-read f ≡ letter-read (getD f 0 0 ∷ [])
 one-byte [] h = absurd (omega arith)
 one-byte (b ∷ []) h = refl
 one-byte (b ∷ (x ∷ bs)) h = absurd (omega arith)
 
-module _ (f : Bytes) (h : length f ≡ 1) where
-  pub a-letter : known (getD f 0 0) ≡ true → Is (getD f 0 0) ≡ letter-field f
-  a-letter k = sym (one-byte f h ∙ cond-true (known (getD f 0 0)) (Is (getD f 0 0)) Other k)
-
-  pub other-byte : known (getD f 0 0) ≡ false → Other ≡ letter-field f
-  other-byte k = sym (one-byte f h ∙ cond-false (known (getD f 0 0)) (Is (getD f 0 0)) Other k)
-
-pub other-length : (f : Bytes) → (length f ≡ 1 → ⊥) → Other ≡ letter-field f
-unfolding letter-field is-letter
+pub other-length : (f : Bytes) → (length f ≡ 1 → ⊥) → letter-result Other ≡ letter-read f
+unfolding letter-result letter-read form-result form-in forms is-letter
 other-length [] h = refl
 other-length (b ∷ []) h = absurd (h refl)
 other-length (b ∷ (x ∷ bs)) h = refl
 
--- the letter that is answered is one of the three, and the field is it and no other
-pub letter-is : (f : Bytes) (c : ℕ) → letter-field f ≡ Is c → (known c ≡ true) × ((x : ℕ) → is-letter x f ≡ eqb c x)
-unfolding letter-field is-letter known
-letter-is [] c e = let z : _≡_ {A = ℕ} 0 1 = cc in absurd (omega arith)
-letter-is (b ∷ (x ∷ bs)) c e = let z : _≡_ {A = ℕ} 0 1 = cc in absurd (omega arith)
-letter-is (b ∷ []) c e = go (test (known b))
+-- a line that starts with neither D nor A closes
+pub closes : (c : ℕ) (l : Bytes) → (c ≡ letter-D → ⊥) → (c ≡ letter-A → ⊥) → asked-result Close ≡ after-letter c l
+unfolding after-letter form-read fields-read unless first-given _if_ result form-in forms is-letter readable with-values request-by asked-result
+closes c l d a = go (test (eqb c letter-B))
   where
-    go : (known b ≡ true) ⊎ (known b ≡ false) → (known c ≡ true) × ((x : ℕ) → is-letter x (b ∷ []) ≡ eqb c x)
-    go (inl h) = let k : b ≡ c = cc (cond-true (known b) (Is b) Other h) in (simp (sym k) h, λ x. ap (λ (n : ℕ). eqb n x) k)
-    go (inr h) = let z : _≡_ {A = ℕ} 0 1 = cc (cond-false (known b) (Is b) Other h) in absurd (omega arith)
+    go : (eqb c letter-B ≡ true) ⊎ (eqb c letter-B ≡ false) → asked-result Close ≡ after-letter c l
+    go (inl b) = simp (ne-eqb c letter-D d, ne-eqb c letter-A a, b)
+    go (inr b) = simp (ne-eqb c letter-D d, ne-eqb c letter-A a, b)
 
-pub no-letter : (f : Bytes) → letter-field f ≡ Other → (is-letter letter-A f || is-letter letter-B f || is-letter letter-D f) ≡ false
-unfolding letter-field
-no-letter f e = go (test t)
+-- the row of the table from which a letter's answer comes; the letter alone finds it too
+pub record Known (f : Bytes) (c n : ℕ) (o : Bool) : Type 0 where
+  pub row : Form
+  pub of-field : form-in forms f ≡ some row
+  pub of-letter : form-in forms (c ∷ []) ≡ some row
+  pub wanted : fields-wanted row ≡ n
+  pub for-open : row .for-open ≡ o
+
+finds-itself : Every (λ r. form-in forms (r .letter ∷ []) ≡ some r) forms
+unfolding Every form-in forms is-letter letter-A letter-B letter-D
+finds-itself = (refl, (refl, (refl, record {})))
+
+pub letter-says : (f : Bytes) (c n : ℕ) (o : Bool) → letter-result (Is c n o) ≡ letter-read f → Known f c n o
+unfolding letter-result letter-read form-result result
+letter-says f c n o e = go (form-in forms f) refl e
   where
-    t : Bool
-    t = is-letter letter-A f || is-letter letter-B f || is-letter letter-D f
+    go : (q : Option Form) → form-in forms f ≡ q → (0, some (c, n, o)) ≡ form-result q → Known f c n o
+    go none k e = absurd (not-both 12 0 (c, n, o) (sym e))
+    go (some r) k e =
+        let same = values-given 0 (r .letter, fields-wanted r, r .for-open) (c, n, o) e .1 in
+        record {
+          row = r;
+          of-field = k;
+          of-letter = ap (λ x. form-in forms (x .0 ∷ [])) (sym same) ∙ found _ forms finds-itself f r k .1;
+          wanted = ap (λ x. x .1) same;
+          for-open = ap (λ x. x .2) same;
+        }
 
-    go : (t ≡ true) ⊎ (t ≡ false) → t ≡ false
-    go (inl h) = let z : _≡_ {A = ℕ} 0 1 = cc (cond-true t (Is (getD f 0 0)) Other h) in absurd (omega arith)
-    go (inr h) = h
+pub other-says : (f : Bytes) → letter-result Other ≡ letter-read f → form-in forms f ≡ none
+unfolding letter-result letter-read form-result
+other-says f e = go (form-in forms f) e
+  where
+    go : (q : Option Form) → (12, none) ≡ form-result q → q ≡ none
+    go none e = refl
+    go (some r) e = absurd (not-both 12 0 _ e)

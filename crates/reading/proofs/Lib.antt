@@ -1,7 +1,8 @@
 pub mod Commas
+pub mod Results
 pub mod Digits
 pub mod Letters
-pub mod Turns
+pub mod FieldByField
 pub mod LineRows
 pub mod Says
 pub mod Examples

@@ -1,54 +1,60 @@
 -- What the parts of the reader answer. Only promises inside this crate cite these; that of the whole is in Answers.
-use mathlib.Core.Bool.{Bool, true, false, cond, _||_}
-use mathlib.Core.List.{[], _∷_}
+use mathlib.Core.Bool.{Bool, not, cond}
+use mathlib.Core.List.{List, [], _∷_}
+use mathlib.Core.Option.{Option, none, some}
 use Prim.Native.Nat.{ℕ, suc}
 use lib.Dec.{eqb}
-use lib.ListN.{getD}
-use Rattle.lines.specs.Bytes.{Bytes, comma, letter-A, letter-B, letter-D}
-use Rattle.lines.specs.Fields.{is-number, is-grade, value, grade-value, is-letter}
-use Rattle.reading.specs.declared.Reading.{Reading}
-use Rattle.reading.specs.declared.Reading.the-variants.{Open, Admit, Close, Refused}
+use Rattle.board.specs.Rows.{Row, _if_, first-given}
+use Rattle.lines.specs.Bytes.{Bytes, comma}
+use Rattle.lines.specs.Fields.{Kind, readable-as, value-as}
+use Rattle.lines.specs.Reading.{Request, Asks, Form, forms, form-in, fields-wanted, readable, with-values, request-by}
 use Rattle.reading.specs.declared.Letter.{Letter}
 use Rattle.reading.specs.declared.Letter.the-variants.{Is, Other}
 use Rattle.reading.specs.declared.numbers.Field.{Field}
 use Rattle.reading.specs.declared.numbers.Field.the-variants.{Number, Bad}
+use Rattle.reading.specs.Answers.{Result, result}
 
 -- how many bytes stand before the first comma
 unfoldable pub to-comma : Bytes → ℕ
 to-comma [] = 0
 to-comma (b ∷ bs) = cond (eqb b comma) 0 (suc (to-comma bs))
 
--- a field that must be a number
-unfoldable pub number-field : Bytes → Field
-number-field f = cond (is-number f) (Number (value f)) Bad
+-- the values, unless this row is given
+unfoldable pub unless : {A : Type 0} → Row → A → Result A
+unless r a = result (first-given (r ∷ [])) a
 
--- a grade, which may be blank
-unfoldable pub grade-field : Bytes → Field
-grade-field f = cond (is-grade f) (Number (grade-value f)) Bad
+-- a field's number and value
+unfoldable pub field-result : Field → Result ℕ
+field-result (Number n) = (0, some n)
+field-result Bad = (14, none)
 
--- a first field, which must be one of three letters
-unfoldable pub letter-field : Bytes → Letter
-letter-field f = cond (is-letter letter-A f || is-letter letter-B f || is-letter letter-D f) (Is (getD f 0 0)) Other
+-- row 14 of a field of this kind, or its value
+unfoldable pub field-read : Kind → Bytes → Result ℕ
+field-read k f = unless (14 if not (readable-as k f)) (value-as k f)
 
--- how many fields a line has that starts with this letter
-unfoldable pub wanted : ℕ → ℕ
-wanted c = cond (eqb c letter-D) 2 (cond (eqb c letter-A) 4 1)
+-- a first field's number and values: its letter, how many fields the line has, and whether it is for a board that is open
+unfoldable pub letter-result : Letter → Result (ℕ × ℕ × Bool)
+letter-result (Is c n o) = (0, some (c, n, o))
+letter-result Other = (12, none)
 
--- rows 14 and 15 of a line that opens, by its second field
-unfoldable pub opening : (opened : Bool) → Field → Reading
-opening o Bad = Refused 14
-opening true (Number d) = Refused 15
-opening false (Number d) = Open d
+-- row 12, or the same of a row of the table
+unfoldable pub form-result : Option Form → Result (ℕ × ℕ × Bool)
+form-result none = (12, none)
+form-result (some r) = (0, some (r .letter, fields-wanted r, r .for-open))
 
--- rows 14 and 15 of a line that admits, by its fields after the first
-unfoldable pub admitting : (opened : Bool) → Field → Field → Field → Reading
-admitting o Bad w g = Refused 14
-admitting o (Number t) Bad g = Refused 14
-admitting o (Number t) (Number w) Bad = Refused 14
-admitting false (Number t) (Number w) (Number g) = Refused 15
-admitting true (Number t) (Number w) (Number g) = Admit t w g
+-- the same of a first field
+unfoldable pub letter-read : Bytes → Result (ℕ × ℕ × Bool)
+letter-read f = form-result (form-in forms f)
 
--- row 15 of a line that closes
-unfoldable pub closing : (opened : Bool) → Reading
-closing true = Close
-closing false = Refused 15
+-- row 14 of fields of these kinds, from the n-th on, or the request with their values
+unfoldable pub fields-read : (ks : List Kind) → Asks ks → ℕ → Bytes → Result Request
+fields-read ks q n l = unless (14 if not (readable ks n l)) (with-values ks q n l)
+
+-- the same of a line of this form
+unfoldable pub form-read : Option Form → Bytes → Result Request
+form-read none l = (0, some (request-by none l))
+form-read (some r) l = fields-read (r .after) (r .asks) 1 l
+
+-- the same of a line that starts with this letter
+unfoldable pub after-letter : ℕ → Bytes → Result Request
+after-letter c l = form-read (form-in forms (c ∷ [])) l

@@ -1,120 +1,116 @@
 // One line of the program's input, read: 01, 'Lines' and rows 11 to 15.
 ghost use mathlib.Core.Path.{_≡_};
-ghost use Rattle.lines.specs.Reading.{field};
-ghost use Rattle.reading.specs.Answers.{reading};
-ghost use Rattle.reading.specs.Parts.{number-field, grade-field, letter-field, wanted, opening, admitting, closing};
+ghost use Rattle.lines.specs.Bytes.{letter-A, letter-D};
+ghost use Rattle.lines.specs.Reading.{longest-line};
+ghost use Rattle.reading.specs.Answers.{asked-result, line-result};
+ghost use Rattle.reading.specs.Parts.{letter-result, letter-read, after-letter};
 
 mod fields;
 mod numbers;
 
+use board::Laxity;
 use fields::count_fields;
 use fields::nth_field;
 use numbers::Field;
 use numbers::grade_field;
 use numbers::number_field;
 
+// Most bytes of a line, the line end not counted.
+pub const LONGEST_LINE: usize = 40;
+
 // What a line asks for, or the number of the first of rows 11 to 15 that refuses it.
-pub enum Reading {
+pub enum Asked {
     // A depth.
     Open(u32),
     // Ticket, laxity (01's wait) and grade.
-    Admit(u32, u32, u32),
+    Admit(u32, Laxity, u32),
     Close,
     Refused(u8),
 }
 
-// What a line's first field is: one of the letters A, B and D, or something else.
+// What a line's first field is: a letter, how many fields its line has and whether it is for a board that is open; or something else.
 enum Letter {
-    Is(u8),
+    Is(u8, usize, bool),
     Other,
 }
 
-// Row 12: the first field is one of the three letters.
+// The definitions' most bytes of a line is the constant.
+fn limits()
+    ensures { λ r. do ⌜ (← ⟦LONGEST_LINE⟧ .entry) ≡ longest-line ⌝ }
+{}
+
+// The table of letters. Row 12: a first field that is none of them.
 fn letter_field(f: &[u8]) -> Letter
-    ensures { λ r. ⌜ r ≡ letter-field (now (f .entry)) ⌝ }
+    ensures { λ r. ⌜ letter-result r ≡ letter-read (now (f .entry)) ⌝ }
 {
     if f.len() != 1 {
         return Letter::Other;
     }
     let b = f[0];
     match b {
-        b'A' => Letter::Is(b),
-        b'B' => Letter::Is(b),
-        b'D' => Letter::Is(b),
+        b'D' => Letter::Is(b, 2, false),
+        b'A' => Letter::Is(b, 4, true),
+        b'B' => Letter::Is(b, 1, true),
         _ => Letter::Other,
     }
 }
 
-// Row 13: how many fields a line has that starts with this letter.
-fn fields_wanted(letter: u8) -> usize
-    ensures { λ r. ⌜ r ≡ wanted letter ⌝ }
-{
-    match letter {
-        b'D' => 2,
-        b'A' => 4,
-        _ => 1,
-    }
-}
-
-// Rows 14 and 15 of a line that opens.
-fn read_open(line: &[u8], opened: bool) -> Reading
-    ensures { λ r. ⌜ r ≡ opening opened (number-field (field 1 (now (line .entry)))) ⌝ }
+// Row 14 of a line that opens.
+fn read_open(line: &[u8]) -> Asked
+    ensures { λ r. ⌜ asked-result r ≡ after-letter letter-D (now (line .entry)) ⌝ }
 {
     let Field::Number(depth) = number_field(nth_field(line, 1)) else {
-        return Reading::Refused(14);
+        return Asked::Refused(14);
     };
-    if opened {
-        return Reading::Refused(15);
-    }
-    Reading::Open(depth)
+    Asked::Open(depth)
 }
 
-// Rows 14 and 15 of a line that admits.
-fn read_admit(line: &[u8], opened: bool) -> Reading
-    ensures { λ r. ⌜ r ≡ admitting opened (number-field (field 1 (now (line .entry)))) (number-field (field 2 (now (line .entry))))
-        (grade-field (field 3 (now (line .entry)))) ⌝ }
+// Row 14 of a line that admits.
+fn read_admit(line: &[u8]) -> Asked
+    ensures { λ r. ⌜ asked-result r ≡ after-letter letter-A (now (line .entry)) ⌝ }
 {
     let Field::Number(ticket) = number_field(nth_field(line, 1)) else {
-        return Reading::Refused(14);
+        return Asked::Refused(14);
     };
     let Field::Number(laxity) = number_field(nth_field(line, 2)) else {
-        return Reading::Refused(14);
+        return Asked::Refused(14);
     };
     let Field::Number(grade) = grade_field(nth_field(line, 3)) else {
-        return Reading::Refused(14);
+        return Asked::Refused(14);
     };
-    if !opened {
-        return Reading::Refused(15);
-    }
-    Reading::Admit(ticket, laxity, grade)
+    Asked::Admit(ticket, Laxity(laxity), grade)
 }
 
-// Row 15 of a line that closes.
-fn read_close(opened: bool) -> Reading
-    ensures { λ r. ⌜ r ≡ closing opened ⌝ }
+// Row 14 of a line that starts with this letter.
+fn read_fields(line: &[u8], letter: u8) -> Asked
+    ensures { λ r. ⌜ asked-result r ≡ after-letter letter (now (line .entry)) ⌝ }
 {
-    if !opened {
-        return Reading::Refused(15);
+    match letter {
+        b'D' => read_open(line),
+        b'A' => read_admit(line),
+        _ => Asked::Close,
     }
-    Reading::Close
 }
 
 // Reads a line, the line end not among its bytes; `opened` says whether a board is open.
-pub fn read_line(line: &[u8], opened: bool) -> Reading
-    ensures { λ r. ⌜ r ≡ reading opened (now (line .entry)) ⌝ }
+pub fn read_line(line: &[u8], opened: bool) -> Asked
+    ensures { λ r. ⌜ asked-result r ≡ line-result opened (now (line .entry)) ⌝ }
 {
-    if 40 < line.len() {
-        return Reading::Refused(11);
+    if LONGEST_LINE < line.len() {
+        return Asked::Refused(11);
     }
-    let Letter::Is(letter) = letter_field(nth_field(line, 0)) else {
-        return Reading::Refused(12);
+    let Letter::Is(letter, wanted, for_open) = letter_field(nth_field(line, 0)) else {
+        return Asked::Refused(12);
     };
-    if count_fields(line) != fields_wanted(letter) {
-        return Reading::Refused(13);
+    if count_fields(line) != wanted {
+        return Asked::Refused(13);
     }
-    match letter {
-        b'D' => read_open(line, opened),
-        b'A' => read_admit(line, opened),
-        _ => read_close(opened),
+    let asked = read_fields(line, letter);
+    if let Asked::Refused(number) = asked {
+        return Asked::Refused(number);
     }
+    if opened != for_open {
+        return Asked::Refused(15);
+    }
+    asked
 }

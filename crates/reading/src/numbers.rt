@@ -1,7 +1,7 @@
 // A field read as a number.
 ghost use mathlib.Core.Path.{_≡_};
-ghost use Rattle.lines.specs.Fields.{is-digit};
-ghost use Rattle.reading.specs.Parts.{number-field, grade-field};
+ghost use Rattle.lines.specs.Fields.{is-digit, a-number, a-grade};
+ghost use Rattle.reading.specs.Parts.{field-result, field-read};
 
 // A field's answer: its number, or that row 14 refuses it.
 pub(crate) enum Field {
@@ -21,7 +21,7 @@ fn is_digit(b: u8) -> bool
 
 // A number: 1 to 10 decimal digits, at most 4,294,967,295.
 pub(crate) fn number_field(f: &[u8]) -> Field
-    ensures { λ r. ⌜ r ≡ number-field (now (f .entry)) ⌝ }
+    ensures { λ r. ⌜ field-result r ≡ field-read a-number (now (f .entry)) ⌝ }
 {
     if f.len() < 1 {
         return Field::Bad;
@@ -47,7 +47,7 @@ pub(crate) fn number_field(f: &[u8]) -> Field
 
 // A grade: a number, or blank, which is 0.
 pub(crate) fn grade_field(f: &[u8]) -> Field
-    ensures { λ r. ⌜ r ≡ grade-field (now (f .entry)) ⌝ }
+    ensures { λ r. ⌜ field-result r ≡ field-read a-grade (now (f .entry)) ⌝ }
 {
     if f.len() == 0 {
         return Field::Number(0);

@@ -7,7 +7,7 @@ use native.Mathlib.Omega.{arith}
 use lib.ListN.{length}
 use Rattle.lines.specs.Bytes.{Bytes, line-end}
 use Rattle.lines.specs.Session.{Session, answer}
-use Rattle.lines.specs.Machine.{after-bytes, printed-along}
+use Rattle.lines.specs.Machine.{most-held, after-bytes, printed-along}
 use Rattle.printing.specs.Lines.{put}
 use Rattle.program.specs.declared.session.Said.{Said}
 use Rattle.program.specs.declared.feed.Held.{Held}
@@ -22,7 +22,7 @@ module _
     (k : Desk) (s : Bytes) (from to : ℕ) (out : Bytes) (at : ℕ) (l : LineEnds s from to)
     (h : Held) (e : held-bytes h ≡ hold-all (held-bytes (k .held)) (used-bytes s from to))
   where
-    pub taken-part : GoodDay (k .day) → h .len ≤ 41 → at ≤ length out
+    pub taken-part : GoodDay (k .day) → h .len ≤ most-held → at ≤ length out
         → TakenIn k s from out at (record { desk = record { day = k .day; number = k .number; held = h }; used = to; at = at }) out
     unfolding machine-of line-room
     taken-part g n f =

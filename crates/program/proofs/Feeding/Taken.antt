@@ -7,7 +7,7 @@ use native.Mathlib.Omega.{arith}
 use lib.ListN.{length}
 use Rattle.lists.proofs.Tests.{cmp}
 use Rattle.lines.specs.Bytes.{Bytes}
-use Rattle.lines.specs.Machine.{Machine, after-bytes, printed-along}
+use Rattle.lines.specs.Machine.{most-held, Machine, after-bytes, printed-along}
 use Rattle.printing.specs.Lines.{put}
 use Rattle.program.specs.declared.feed.Desk.{Desk}
 use Rattle.program.specs.declared.feed.Fed.{Fed}
@@ -18,7 +18,7 @@ use Rattle.program.proofs.Feeding.Along.{after-append, printed-append}
 use Rattle.program.proofs.Feeding.Buffers.{put-none, put-length}
 use Rattle.program.proofs.Feeding.Parts.{part-none, part-join}
 
-pub taken-none : (k : Desk) (s : Bytes) (from : ℕ) (out : Bytes) (at : ℕ) → GoodDay (k .day) → k .held .len ≤ 41 → from ≤ length s → at ≤ length out
+pub taken-none : (k : Desk) (s : Bytes) (from : ℕ) (out : Bytes) (at : ℕ) → GoodDay (k .day) → k .held .len ≤ most-held → from ≤ length s → at ≤ length out
     → TakenIn k s from out at (record { desk = k; used = from; at = at }) out
 unfolding after-bytes printed-along line-room
 taken-none k s from out at g h l f =

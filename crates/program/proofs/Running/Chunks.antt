@@ -7,7 +7,7 @@ use native.Mathlib.Omega.{arith}
 use lib.ListN.{length, length-append}
 use Rattle.lists.proofs.Tests.{never}
 use Rattle.lines.specs.Bytes.{Bytes}
-use Rattle.lines.specs.Machine.{Machine, after-bytes, printed-along}
+use Rattle.lines.specs.Machine.{most-held, Machine, after-bytes, printed-along}
 use Rattle.program.specs.declared.feed.Desk.{Desk}
 use Rattle.program.specs.declared.feed.Fed.{Fed}
 use Rattle.program.specs.Days.{GoodDay, line-room}
@@ -19,14 +19,14 @@ use Rattle.program.proofs.Feeding.Parts.{part-none, part-join, part-who
 -- so many bytes of the chunk are taken in, and all that they print is written
 pub record Along (first : Desk) (chunk : Bytes) (desk : Desk) (used written : ℕ) : Type 0 where
   pub good : GoodDay (desk .day)
-  pub held : desk .held .len ≤ 41
+  pub held : desk .held .len ≤ most-held
   pub inside : used ≤ length chunk
   pub number : desk .number ≤ first .number + used
   pub machine : machine-of desk ≡ after-bytes (machine-of first) (used-bytes chunk 0 used)
   pub all : written ≡ length (printed-along (machine-of first) (used-bytes chunk 0 used))
   pub few : written ≤ line-room * used
 
-pub along-none : (first : Desk) (chunk : Bytes) → GoodDay (first .day) → first .held .len ≤ 41 → Along first chunk first 0 0
+pub along-none : (first : Desk) (chunk : Bytes) → GoodDay (first .day) → first .held .len ≤ most-held → Along first chunk first 0 0
 unfolding after-bytes printed-along line-room
 along-none first chunk g h =
     let e = part-none chunk 0 in

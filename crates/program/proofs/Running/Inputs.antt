@@ -6,7 +6,7 @@ use Prim.Native.Nat.{ℕ, _+_, _*_, _≤_}
 use native.Mathlib.Omega.{arith}
 use lib.ListN.{length, length-append}
 use Rattle.lines.specs.Bytes.{Bytes}
-use Rattle.lines.specs.Machine.{Machine, new-machine, after-bytes, printed-along}
+use Rattle.lines.specs.Machine.{most-held, Machine, new-machine, after-bytes, printed-along}
 use Rattle.program.specs.declared.feed.Desk.{Desk}
 use Rattle.program.specs.declared.run.Ended.the-variants.{WriteFailed, TooLong}
 use Rattle.program.specs.declared.run.Outcome.{Outcome}
@@ -22,7 +22,7 @@ pub record SoFar (desk : Desk) (read written : ℕ) : Type 0 where
   pub input : Bytes
   pub count : read ≡ length input
   pub good : GoodDay (desk .day)
-  pub held : desk .held .len ≤ 41
+  pub held : desk .held .len ≤ most-held
   pub number : desk .number ≤ 1 + read
   pub machine : machine-of desk ≡ after-bytes new-machine input
   pub all : written ≡ length (printed-along new-machine input)

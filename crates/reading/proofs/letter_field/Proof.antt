@@ -1,8 +1,11 @@
--- `letter_field` answers the definition's letter.
+-- `letter_field` answers the table's row of the field.
 use borrow.Author.Needs.{needs}
 use borrow.Author.Tests.{ne-eqb}
 use Rattle.lines.specs.Bytes.{letter-A, letter-B, letter-D}
-use Rattle.reading.proofs.Letters.{known, a-letter, other-byte, other-length}
+use Rattle.lines.specs.Fields.{is-letter}
+use Rattle.lines.specs.Reading.{forms, form-in, fields-wanted}
+use Rattle.reading.specs.Parts.{letter-result, form-result, letter-read}
+use Rattle.reading.proofs.Letters.{one-byte, other-length}
 use Rattle.reading.proofs.letter_field.Statement.{statement}
 use Rattle.reading.proofs.letter_field.Tie as tie
 
@@ -13,22 +16,22 @@ shared-slice-read-b : tie.Need-shared-slice-read-b
 shared-slice-read-b c = search needs
 
 returns-2 : tie.Need-returns-2
-unfolding known letter-A letter-B letter-D
-returns-2 c = a-letter _ (c .before .before .if1 .left) (simp (c .match .keys1))
+unfolding letter-result letter-read form-result form-in forms fields-wanted is-letter letter-A letter-B letter-D
+returns-2 c = simp (one-byte (c .before .before .before .args .f .now) (c .before .before .if1 .left), c .match .keys1)
 
 returns-3 : tie.Need-returns-3
-unfolding known letter-A letter-B letter-D
-returns-3 c = a-letter _ (c .before .before .if1 .left) (simp (c .match .keys2))
+unfolding letter-result letter-read form-result form-in forms fields-wanted is-letter letter-A letter-B letter-D
+returns-3 c = simp (one-byte (c .before .before .before .args .f .now) (c .before .before .if1 .left), c .match .keys2)
 
 returns-4 : tie.Need-returns-4
-unfolding known letter-A letter-B letter-D
-returns-4 c = a-letter _ (c .before .before .if1 .left) (simp (c .match .keys3))
+unfolding letter-result letter-read form-result form-in forms fields-wanted is-letter letter-A letter-B letter-D
+returns-4 c = simp (one-byte (c .before .before .before .args .f .now) (c .before .before .if1 .left), c .match .keys3)
 
 returns-5 : tie.Need-returns-5
-unfolding known letter-A letter-B letter-D
+unfolding letter-result letter-read form-result form-in forms fields-wanted is-letter letter-A letter-B letter-D
 returns-5 c =
     let r = c .match .rest in
-    other-byte _ (c .before .before .if1 .left) (simp (ne-eqb _ _ (r .0 .0 .1), ne-eqb _ _ (r .0 .1), ne-eqb _ _ (r .1)))
+    simp (one-byte (c .before .before .before .args .f .now) (c .before .before .if1 .left), ne-eqb _ _ (r .0 .0 .1), ne-eqb _ _ (r .0 .1), ne-eqb _ _ (r .1))
 
 pub letter-field-spec : {M : Type 1} → statement M
 letter-field-spec =

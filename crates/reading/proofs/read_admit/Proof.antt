@@ -1,33 +1,40 @@
--- `read_admit` answers rows 14 and 15 or the values, by what its fields are.
+-- `read_admit` answers row 14 or the values, by what its fields are.
 use mathlib.Core.Path.{_≡_, sym, ap, _∙_}
 use borrow.Author.Needs.{needs}
-use borrow.Author.Tests.{not-true, not-false}
-use Rattle.lines.specs.Reading.{field}
+use Rattle.lines.specs.Bytes.{letter-A, letter-D}
+use Rattle.lines.specs.Fields.{a-number, a-grade, is-letter}
+use Rattle.lines.specs.Reading.{forms, form-in, field}
 use Rattle.reading.specs.declared.numbers.Field.the-variants.{Number}
-use Rattle.reading.specs.Parts.{number-field, grade-field}
-use Rattle.reading.proofs.Turns.{no-ticket, no-laxity, no-grade, not-open, admitted}
+use Rattle.reading.specs.Answers.{asked-result}
+use Rattle.reading.specs.Parts.{field-result, field-read, form-read, after-letter}
+use Rattle.reading.proofs.FieldByField.{bad-field, good-field, no-more-fields}
 use Rattle.reading.proofs.read_admit.Statement.{statement}
 use Rattle.reading.proofs.read_admit.Tie as tie
 
 -- what the fields' readers answer
-first : (c : tie.After-number-field) → number-field (field 1 (c .before .before .before .args .line .now)) ≡ c .number-field .result
-first c = sym (c .number-field .ensures ∙ ap number-field (c .before .nth-field .ensures))
+first : (c : tie.After-number-field) → field-result (c .number-field .result) ≡ field-read a-number (field 1 (c .before .before .before .args .line .now))
+first c = c .number-field .ensures ∙ ap (field-read a-number) (c .before .nth-field .ensures)
 
-second : (c : tie.After-number-field2) → number-field (field 2 (c .before .before .before .before .before .before .before .before .args .line .now)) ≡ c .number-field2 .result
-second c = sym (c .number-field2 .ensures ∙ ap number-field (c .before .nth-field2 .ensures))
+second : (c : tie.After-number-field2)
+    → field-result (c .number-field2 .result) ≡ field-read a-number (field 2 (c .before .before .before .before .before .before .before .before .args .line .now))
+second c = c .number-field2 .ensures ∙ ap (field-read a-number) (c .before .nth-field2 .ensures)
 
-third : (c : tie.After-grade-field) → grade-field (field 3 (c .before .before .before .before .before .before .before .before .before .before .before .before .before .args .line .now)) ≡ c .grade-field .result
-third c = sym (c .grade-field .ensures ∙ ap grade-field (c .before .nth-field3 .ensures))
+third : (c : tie.After-grade-field)
+    → field-result (c .grade-field .result) ≡ field-read a-grade (field 3 (c .before .before .before .before .before .before .before .before .before .before .before .before .before .args .line .now))
+third c = c .grade-field .ensures ∙ ap (field-read a-grade) (c .before .nth-field3 .ensures)
 
 -- past its test a field is a number
-ticket : (c : tie.After-ticket) → number-field (field 1 (c .before .before .before .before .before .args .line .now)) ≡ Number (c .ticket .given .0 .0)
-ticket c = first (c .before .before) ∙ c .ticket .given .1
+ticket : (c : tie.After-ticket)
+    → field-result (Number (c .ticket .given .0 .0)) ≡ field-read a-number (field 1 (c .before .before .before .before .before .args .line .now))
+ticket c = sym (ap field-result (c .ticket .given .1)) ∙ first (c .before .before)
 
-laxity : (c : tie.After-laxity) → number-field (field 2 (c .before .before .before .before .before .before .before .before .before .before .args .line .now)) ≡ Number (c .laxity .given .0 .0)
-laxity c = second (c .before .before) ∙ c .laxity .given .1
+laxity : (c : tie.After-laxity)
+    → field-result (Number (c .laxity .given .0 .0)) ≡ field-read a-number (field 2 (c .before .before .before .before .before .before .before .before .before .before .args .line .now))
+laxity c = sym (ap field-result (c .laxity .given .1)) ∙ second (c .before .before)
 
-grade : (c : tie.After-grade) → grade-field (field 3 (c .before .before .before .before .before .before .before .before .before .before .before .before .before .before .before .args .line .now)) ≡ Number (c .grade .given .0 .0)
-grade c = third (c .before .before) ∙ c .grade .given .1
+grade : (c : tie.After-grade)
+    → field-result (Number (c .grade .given .0 .0)) ≡ field-read a-grade (field 3 (c .before .before .before .before .before .before .before .before .before .before .before .before .before .before .before .args .line .now))
+grade c = sym (ap field-result (c .grade .given .1)) ∙ third (c .before .before)
 
 nth-field-requires : tie.Need-nth-field-requires
 nth-field-requires c κs = search needs
@@ -42,7 +49,8 @@ enum-told : tie.Need-enum-told
 enum-told c = search needs
 
 returns : tie.Need-returns
-returns c = no-ticket _ _ _ _ (first (c .before .before) ∙ c .enum-told .given .1)
+unfolding after-letter form-read form-in forms is-letter letter-A letter-D asked-result
+returns c = bad-field _ _ _ _ _ (sym (ap field-result (c .enum-told .given .1)) ∙ first (c .before .before))
 
 nth-field-requires-2 : tie.Need-nth-field-requires-2
 nth-field-requires-2 c κs = search needs
@@ -57,9 +65,10 @@ enum-told-2 : tie.Need-enum-told-2
 enum-told-2 c = search needs
 
 returns-2 : tie.Need-returns-2
+unfolding after-letter form-read form-in forms is-letter letter-A letter-D asked-result
 returns-2 c =
     let m = c .before .before in
-    no-laxity _ _ _ _ (ticket (m .before .before .before)) (second m ∙ c .enum-told2 .given .1)
+    bad-field _ _ _ _ _ (sym (ap field-result (c .enum-told2 .given .1)) ∙ second m) ∙ good-field _ _ _ _ _ _ (ticket (m .before .before .before))
 
 nth-field-requires-3 : tie.Need-nth-field-requires-3
 nth-field-requires-3 c κs = search needs
@@ -74,22 +83,20 @@ enum-told-3 : tie.Need-enum-told-3
 enum-told-3 c = search needs
 
 returns-3 : tie.Need-returns-3
+unfolding after-letter form-read form-in forms is-letter letter-A letter-D asked-result
 returns-3 c =
     let m = c .before .before in
-    let l = m .before .before .before in
-    no-grade _ _ _ _ (ticket (l .before .before .before .before .before)) (laxity l) (third m ∙ c .enum-told3 .given .1)
+    let w = m .before .before .before in
+    let t = w .before .before .before .before .before in
+    bad-field _ _ _ _ _ (sym (ap field-result (c .enum-told3 .given .1)) ∙ third m) ∙ good-field _ _ _ _ _ _ (laxity w) ∙ good-field _ _ _ _ _ _ (ticket t)
 
 returns-4 : tie.Need-returns-4
+unfolding after-letter form-read form-in forms is-letter letter-A letter-D asked-result
 returns-4 c =
-    let m = c .before .before in
-    let l = m .before .before .before .before .before in
-    not-open _ _ _ _ (ticket (l .before .before .before .before .before)) (laxity l) (grade m) (not-true _ (c .if1 .taken))
-
-returns-5 : tie.Need-returns-5
-returns-5 c =
-    let m = c .before .before in
-    let l = m .before .before .before .before .before in
-    admitted _ _ _ _ (ticket (l .before .before .before .before .before)) (laxity l) (grade m) (not-false _ (c .if1 .left))
+    let g = c .before in
+    let w = g .before .before .before .before .before in
+    let t = w .before .before .before .before .before in
+    no-more-fields _ _ _ ∙ good-field _ _ _ _ _ _ (grade g) ∙ good-field _ _ _ _ _ _ (laxity w) ∙ good-field _ _ _ _ _ _ (ticket t)
 
 pub read-admit-spec : {M : Type 1} → statement M
 read-admit-spec =
@@ -110,5 +117,4 @@ read-admit-spec =
     enum-known-grade
     enum-told-3
     returns-3
-    returns-4
-    returns-5)
+    returns-4)

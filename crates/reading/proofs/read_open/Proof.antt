@@ -1,6 +1,12 @@
--- `read_open` answers rows 14 and 15 or the depth, by what its field is.
+-- `read_open` answers row 14 or the depth, by what its field is.
+use mathlib.Core.Path.{_∙_}
 use borrow.Author.Needs.{needs}
-use Rattle.reading.proofs.Turns.{no-depth, open-already, opened}
+use Rattle.lines.specs.Bytes.{letter-D}
+use Rattle.lines.specs.Fields.{is-letter}
+use Rattle.lines.specs.Reading.{forms, form-in}
+use Rattle.reading.specs.Answers.{asked-result}
+use Rattle.reading.specs.Parts.{form-read, after-letter}
+use Rattle.reading.proofs.FieldByField.{bad-field, good-field, no-more-fields}
 use Rattle.reading.proofs.read_open.Statement.{statement}
 use Rattle.reading.proofs.read_open.Tie as tie
 
@@ -17,13 +23,12 @@ enum-told : tie.Need-enum-told
 enum-told c = search needs
 
 returns : tie.Need-returns
-returns c = no-depth _ (cc)
+unfolding after-letter form-read form-in forms is-letter letter-D asked-result
+returns c = bad-field _ _ _ _ _ (cc)
 
 returns-2 : tie.Need-returns-2
-returns-2 c = open-already _ {d = c .before .before .depth .given .0 .0} (cc) (cc)
-
-returns-3 : tie.Need-returns-3
-returns-3 c = opened _ (cc) (cc)
+unfolding after-letter form-read form-in forms is-letter letter-D asked-result
+returns-2 c = no-more-fields _ _ _ ∙ good-field _ _ _ _ _ _ (cc)
 
 pub read-open-spec : {M : Type 1} → statement M
 read-open-spec =
@@ -34,5 +39,4 @@ read-open-spec =
     enum-known-depth
     enum-told
     returns
-    returns-2
-    returns-3)
+    returns-2)

@@ -9,7 +9,7 @@ use lib.Seq.{length-take-le}
 use Rattle.program.specs.declared.feed.Desk.{Desk}
 use Rattle.program.specs.Days.{line-room}
 use Rattle.program.specs.Machines.{held-bytes, TakenIn}
-use Rattle.program.proofs.Feeding.Known.{held-41}
+use Rattle.program.proofs.Feeding.Known.{held-room}
 use Rattle.program.proofs.Feeding.LineTaken.{taken-part, taken-line}
 use Rattle.program.proofs.Feeding.Taken.{taken-none, kept-length, taken-join, stops-full, stops-at-end}
 use Rattle.program.proofs.feed.feed.Statement.{statement}
@@ -51,12 +51,12 @@ hold-part-requires c κs =
 full : (c : tie.After-hold-part Inv-loop μ-loop) → length (take (c .hold-part .result .len) (c .hold-part .result .bytes)) ≡ c .hold-part .result .len
 full c =
     let h = c .hold-part .result in
-    length-take-le (h .len) (h .bytes) (omega (arith, held-41 h _ (c .hold-part .ok), c .hold-part .ensures .0))
+    length-take-le (h .len) (h .bytes) (omega (arith, held-room h _ (c .hold-part .ok), c .hold-part .ensures .0))
 
 array-share-prefix-bytes : tie.Need-array-share-prefix-bytes Inv-loop μ-loop
 array-share-prefix-bytes c =
     let p = c .before .before .hold-part in
-    omega (arith, held-41 (p .result) _ (p .ok), p .ensures .0)
+    omega (arith, held-room (p .result) _ (p .ok), p .ensures .0)
 
 slice-aggregate-answer-line : tie.Need-slice-aggregate-answer-line Inv-loop μ-loop
 slice-aggregate-answer-line c = sym (full (c .before .before .before))

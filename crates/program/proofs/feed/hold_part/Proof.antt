@@ -5,11 +5,12 @@ use Prim.Native.Nat.{ℕ, _+_, _-_, _≤_}
 use native.Mathlib.Omega.{arith}
 use borrow.Author.Needs.{needs}
 use lib.ListN.{length, set, getD, length-set}
-use Rattle.lines.specs.Machine.{hold}
+use Rattle.lines.specs.Reading.{longest-line}
+use Rattle.lines.specs.Machine.{hold, most-held}
 use Rattle.program.specs.declared.feed.Held.{Held}
 use Rattle.program.specs.Machines.{held-bytes, used-bytes, hold-all}
 use Rattle.program.proofs.Feeding.Holding.{byte-held, none-held, held-next}
-use Rattle.program.proofs.Feeding.Known.{held-41}
+use Rattle.program.proofs.Feeding.Known.{held-room}
 use Rattle.program.proofs.Feeding.Parts.{part-none}
 use Rattle.program.proofs.feed.hold_part.Statement.{statement}
 use Rattle.program.proofs.feed.hold_part.Tie as tie
@@ -17,15 +18,15 @@ use Rattle.program.proofs.feed.hold_part.Tie as tie
 abbrev Inv-loop : tie.InvT-loop
 Inv-loop chunk from to held₀ i₀ held i =
     (i ≤ to)
-    × (held .len ≤ 41)
-    × (length (held .bytes) ≡ 41)
+    × (held .len ≤ most-held)
+    × (length (held .bytes) ≡ most-held)
     × (hold-all (held-bytes held) (used-bytes chunk i to) ≡ hold-all (held-bytes held₀) (used-bytes chunk from to))
 
 abbrev μ-loop : tie.MeasureT-loop
 μ-loop chunk from to held₀ i₀ held i = to - i
 
 loop-holds : tie.Need-loop-holds Inv-loop μ-loop
-loop-holds c = (c .pre .1, c .pre .0, held-41 (c .args .h) _ (c .good .0), refl)
+loop-holds c = (c .pre .1, c .pre .0, held-room (c .args .h) _ (c .good .0), refl)
 
 shared-slice-read-held : tie.Need-shared-slice-read-held Inv-loop μ-loop
 shared-slice-read-held c = search needs
@@ -46,7 +47,7 @@ loop-less c = search needs
 next : (c : tie.In-loop Inv-loop μ-loop) (h : Held) →
     let a = c .before .before .args in
     let l = c .before .loop in
-    h .len ≤ 41 → length (h .bytes) ≡ 41 → held-bytes h ≡ hold (getD (a .chunk .now) (l .i) 0) (held-bytes (l .held))
+    h .len ≤ most-held → length (h .bytes) ≡ most-held → held-bytes h ≡ hold (getD (a .chunk .now) (l .i) 0) (held-bytes (l .held))
     → Inv-loop (a .chunk .now) (a .from) (a .to) (a .h) (a .from) h (l .i + 1)
 next c h n f e =
     let s = c .before .before in
@@ -55,7 +56,7 @@ next c h n f e =
     (omega arith, n, f, held-next (a .chunk .now) (l .i) (a .to) (held-bytes (l .held)) (held-bytes h) (c .loop-test .taken) (s .pre .2) e ∙ l .inv .3)
 
 loop-again : tie.Need-loop-again Inv-loop μ-loop
-unfolding held-bytes
+unfolding held-bytes most-held longest-line
 loop-again c =
     let t = c .before in
     let a = t .before .before .args in

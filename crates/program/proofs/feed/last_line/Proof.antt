@@ -10,7 +10,7 @@ use Rattle.printing.specs.Lines.{put}
 use Rattle.program.specs.Machines.{held-bytes, machine-of}
 use Rattle.program.proofs.Feeding.Buffers.{put-none}
 use Rattle.program.proofs.Feeding.Ending.{last-none, last-begun}
-use Rattle.program.proofs.Feeding.Known.{desk-41}
+use Rattle.program.proofs.Feeding.Known.{desk-room}
 use Rattle.program.proofs.feed.last_line.Statement.{statement}
 use Rattle.program.proofs.feed.last_line.Tie as tie
 
@@ -18,7 +18,7 @@ use Rattle.program.proofs.feed.last_line.Tie as tie
 full : (c : tie.Start) → length (take (c .args .desk .held .len) (c .args .desk .held .bytes)) ≡ c .args .desk .held .len
 full c =
     let h = c .args .desk .held in
-    length-take-le (h .len) (h .bytes) (omega (arith, desk-41 (c .args .desk) _ (c .good .0)))
+    length-take-le (h .len) (h .bytes) (omega (arith, desk-room (c .args .desk) _ (c .good .0)))
 
 returns : tie.Need-returns
 unfolding machine-of held-bytes
@@ -37,7 +37,7 @@ returns c =
 array-share-prefix-bytes : tie.Need-array-share-prefix-bytes
 array-share-prefix-bytes c =
     let s = c .before .before .before .before .before in
-    omega (arith, desk-41 (s .args .desk) _ (s .good .0), s .pre .1 .0)
+    omega (arith, desk-room (s .args .desk) _ (s .good .0), s .pre .1 .0)
 
 slice-aggregate-answer-line : tie.Need-slice-aggregate-answer-line
 slice-aggregate-answer-line c = sym (full (c .before .before .before .before .before .before))

@@ -1,6 +1,7 @@
 -- `program::session::answer_line`: each request has its function. Assumes nothing.
-use mathlib.Core.Path.{sym, _∙_}
+use mathlib.Core.Path.{sym, ap, _∙_}
 use borrow.Author.Needs.{needs}
+use Rattle.reading.specs.Answers.{asked-result}
 use Rattle.program.proofs.Answering.Answers.{given-as}
 use Rattle.program.proofs.Answering.Requests.{line-refused, line-opens, open-for-admit, line-admits, open-for-close, line-closes}
 use Rattle.program.proofs.session.answer_line.Statement.{statement}
@@ -23,7 +24,7 @@ admit-line-requires c κs =
     let m = c .before .before in
     let r = m .before .before in
     let s = r .before .before .before in
-    (s .pre .0, (open-for-admit _ _ _ _ _ (sym (r .read-line .ensures) ∙ m .asked2 .given .1), s .pre .1))
+    (s .pre .0, (open-for-admit _ _ _ _ _ (sym (ap asked-result (m .asked2 .given .1)) ∙ r .read-line .ensures), s .pre .1))
 
 enum-told : tie.Need-enum-told
 enum-told c = search needs
@@ -33,7 +34,7 @@ close-line-requires c κs =
     let m = c .before in
     let r = m .before .before in
     let s = r .before .before .before in
-    (s .pre .0, (open-for-close _ _ (sym (r .read-line .ensures) ∙ m .enum-told .given .1), s .pre .1))
+    (s .pre .0, (open-for-close _ _ (sym (ap asked-result (m .enum-told .given .1)) ∙ r .read-line .ensures), s .pre .1))
 
 enum-known-asked-3 : tie.Need-enum-known-asked-3
 enum-known-asked-3 c = search needs
@@ -47,7 +48,7 @@ same-length c = search needs
 returns : tie.Need-returns
 returns c =
     let m = c .before .before .before .before .before in
-    given-as (line-opens _ _ _ _ (sym (m .before .before .read-line .ensures) ∙ m .asked .given .1)) (c .before .before .open-line .ensures)
+    given-as (line-opens _ _ _ _ (sym (ap asked-result (m .asked .given .1)) ∙ m .before .before .read-line .ensures)) (c .before .before .open-line .ensures)
 
 same-length-2 : tie.Need-same-length-2
 same-length-2 c = search needs
@@ -55,7 +56,7 @@ same-length-2 c = search needs
 returns-2 : tie.Need-returns-2
 returns-2 c =
     let m = c .before .before .before .before .before in
-    given-as (line-admits _ _ _ _ _ _ (sym (m .before .before .read-line .ensures) ∙ m .asked2 .given .1)) (c .before .before .admit-line .ensures)
+    given-as (line-admits _ _ _ _ _ _ (sym (ap asked-result (m .asked2 .given .1)) ∙ m .before .before .read-line .ensures)) (c .before .before .admit-line .ensures)
 
 same-length-3 : tie.Need-same-length-3
 same-length-3 c = search needs
@@ -63,7 +64,7 @@ same-length-3 c = search needs
 returns-3 : tie.Need-returns-3
 returns-3 c =
     let m = c .before .before .before .before in
-    given-as (line-closes _ _ _ (sym (m .before .before .read-line .ensures) ∙ m .enum-told .given .1)) (c .before .before .close-line .ensures)
+    given-as (line-closes _ _ _ (sym (ap asked-result (m .enum-told .given .1)) ∙ m .before .before .read-line .ensures)) (c .before .before .close-line .ensures)
 
 same-length-4 : tie.Need-same-length-4
 same-length-4 c = search needs
@@ -71,7 +72,7 @@ same-length-4 c = search needs
 returns-4 : tie.Need-returns-4
 returns-4 c =
     let m = c .before .before .before .before .before in
-    given-as (line-refused _ _ _ _ (sym (m .before .before .read-line .ensures) ∙ m .asked3 .given .1)) (c .before .before .refuse .ensures)
+    given-as (line-refused _ _ _ _ (sym (ap asked-result (m .asked3 .given .1)) ∙ m .before .before .read-line .ensures)) (c .before .before .refuse .ensures)
 
 pub answer-line-spec : {M : Type 1} → statement M
 answer-line-spec =

@@ -11,8 +11,9 @@ use borrow.Author.Tests.{not-true, not-false}
 use Rattle.lists.specs.Select.{every}
 use Rattle.lines.specs.Fields.{is-digit, value-after, value}
 use Rattle.reading.specs.declared.numbers.Field.the-variants.{Number}
+use Rattle.reading.specs.Parts.{field-result}
 use Rattle.reading.proofs.Commas.{past}
-use Rattle.reading.proofs.Digits.{digit-bounds, value-step, digits-step, grows, below-ten, too-short, too-long, no-digits, too-great, a-number}
+use Rattle.reading.proofs.Digits.{digit-bounds, value-step, digits-step, grows, below-ten, too-short, too-long, no-digits, too-great, in-range}
 use Rattle.reading.proofs.numbers.number_field.Statement.{statement}
 use Rattle.reading.proofs.numbers.number_field.Tie as tie
 
@@ -101,7 +102,7 @@ cast-t14 c = search needs
 returns-5 : tie.Need-returns-5 Inv-loop μ-loop
 returns-5 c =
     let p = passed (c .before) in
-    ap Number (p .0) ∙ a-number _ (omega arith) (omega arith) (p .1) (omega arith)
+    ap (λ n. field-result (Number n)) (p .0) ∙ in-range _ (omega arith) (omega arith) (p .1) (omega arith)
 
 pub number-field-spec : {M : Type 1} → statement M
 number-field-spec =

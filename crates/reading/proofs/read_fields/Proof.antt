@@ -1,0 +1,28 @@
+-- `read_fields` answers as the reader of the letter's line does.
+use borrow.Author.Needs.{needs}
+use Rattle.lines.specs.Bytes.{letter-A, letter-D}
+use Rattle.reading.proofs.Letters.{closes}
+use Rattle.reading.proofs.read_fields.Statement.{statement}
+use Rattle.reading.proofs.read_fields.Tie as tie
+
+read-open-requires : tie.Need-read-open-requires
+read-open-requires c κs = search needs
+
+read-admit-requires : tie.Need-read-admit-requires
+read-admit-requires c κs = search needs
+
+returns : tie.Need-returns
+unfolding letter-D
+returns c = cc
+
+returns-2 : tie.Need-returns-2
+unfolding letter-A
+returns-2 c = cc
+
+returns-3 : tie.Need-returns-3
+unfolding letter-A letter-D
+returns-3 c = closes _ _ (c .match .rest .0 .1) (c .match .rest .1)
+
+pub read-fields-spec : {M : Type 1} → statement M
+read-fields-spec =
+    tie.close (tie.spec read-open-requires read-admit-requires returns returns-2 returns-3)
