@@ -12,7 +12,7 @@ use Rattle.program.proofs.session.admit_line.Tie as tie
 
 -- on the open board, which is sound, the call is 01's
 answered : (o : tie.After-admit-in-limits) → let a = o .before .before .before .args in
-    o .admit-in-limits .result ≡ admitted (a .day .board) (a .ticket) (a .laxity) (a .grade)
+    o .admit-in-limits .result ≡ admitted (a .day .board) (a .ticket) (a .laxity .0) (a .grade)
 unfolding GoodDay
 answered o = let p = o .before .before .before .pre in o .admit-in-limits .ensures ∙ admitting-on-sound _ _ _ _ (p .0 (p .1 .0))
 
@@ -31,8 +31,8 @@ returns c =
     let o = t .before .before in
     given-as (admit-refused _ _ _ _ _ (o .admit-in-limits .result) (answered o) (t .if1 .taken)) (c .before .before .refuse .ensures)
 
-cast-t23 : tie.Need-cast-t23
-cast-t23 c = search needs
+cast-t22 : tie.Need-cast-t22
+cast-t22 c = search needs
 
 slice-aggregate-say : tie.Need-slice-aggregate-say
 slice-aggregate-say c = search needs
@@ -64,7 +64,7 @@ admit-line-spec =
     refuse-requires
     same-length
     returns
-    cast-t23
+    cast-t22
     slice-aggregate-say
     say-requires
     count-requires
