@@ -37,7 +37,7 @@ closed-alike b lent = rw long-enough refl
 
 -- how many jobs an answer gives up, by its refusal
 all-expired : (n : ℕ) (b : Board) → closed-with n b (bakes b) .refusal ≡ 0 → closed-with n b (bakes b) .expired ≡ length (given-up b)
-unfolding closed-with
+unfolding closed-with given-up
 all-expired zero b e = refl
 all-expired (suc n) b e = absurd (omega (arith, e))
 
