@@ -1,23 +1,22 @@
 -- What admitting answers and leaves behind.
-use mathlib.Core.Bool.{Bool, not}
-use mathlib.Core.List.{List, _∷_}
+use mathlib.Core.Bool.{not}
+use mathlib.Core.List.{_∷_}
 use Prim.Native.Nat.{ℕ, zero, suc, _+_, _-_}
 use lib.ListN.{set}
-use Rattle.board.specs.declared.Place.{Place}
 use Rattle.board.specs.declared.Board.{Board}
 use Rattle.board.specs.declared.Admitted.{Admitted}
 use Rattle.board.specs.Rows.{_if_, first-given, admit-rows}
-use Rattle.board.specs.Held.{slot-number, in-slot}
+use Rattle.board.specs.Held.{slot-of, slot-number, in-slot}
 use Rattle.board.specs.Sound.{sound}
 
 -- the number of an admitting's refusal, 0 for none: rows 2 to 7
 unfoldable pub admit-number : Board → (ticket laxity grade : ℕ) → ℕ
 admit-number b t w g =
-    first-given (2 if not (sound b) ∷ admit-rows (b .slot .0) (b .highest) (in-slot b) (b .depth) t w g)
+    first-given (2 if not (sound b) ∷ admit-rows (slot-of b) (b .highest) (in-slot b) (b .depth) t w g)
 
 -- the job's last slot
 unfoldable pub last-of : Board → ℕ → ℕ
-last-of b w = b .slot .0 + w - 1
+last-of b w = slot-of b + w - 1
 
 -- the board with the job in the first free place
 unfoldable pub with-job : Board → (ticket laxity grade : ℕ) → Board

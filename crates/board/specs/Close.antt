@@ -10,21 +10,21 @@ use Rattle.rule.specs.Bake.{baked, expires, stays, ticket-of, grade-of}
 use Rattle.board.specs.declared.Board.{Board}
 use Rattle.board.specs.declared.Closed.{Closed}
 use Rattle.board.specs.Rows.{_if_, first-given, close-rows}
-use Rattle.board.specs.Held.{held, thinned}
+use Rattle.board.specs.Held.{slot-of, held, thinned}
 use Rattle.board.specs.Sound.{sound}
 
 -- the number of a closing's refusal, 0 for none: rows 2, 3 and 8
 unfoldable pub close-number : Board → (lent : ℕ) → ℕ
-close-number b lent = first-given (2 if not (sound b) ∷ close-rows (b .slot .0) lent)
+close-number b lent = first-given (2 if not (sound b) ∷ close-rows (slot-of b) lent)
 
 -- A slot closed with the ticket t baked, or none, which is ticket 0. 'gives up every other rack whose last slot is the present one': these jobs, each
 -- once. Their order in the lent list is left open.
 unfoldable pub given-up-with : Board → (t : ℕ) → List Job
-given-up-with b t = select (expires (b .slot .0) t) (held b)
+given-up-with b t = select (expires (slot-of b) t) (held b)
 
 -- 'and moves to the next slot', with the jobs that stay
 unfoldable pub moved-on-with : Board → (t : ℕ) → Board
-moved-on-with b t = thinned b (b .slot .0 + 1) (stays (b .slot .0) t)
+moved-on-with b t = thinned b (slot-of b + 1) (stays (slot-of b) t)
 
 -- the answer with the job o baked, by the number of the refusal; 'a refusal hands back the board [..] unchanged; whatever else the answer holds besides
 -- the number is then 0'
@@ -41,7 +41,7 @@ closed-with (suc n) b o = record { refusal = suc n; ticket = 0; grade = 0; expir
 
 -- 'Closing a slot bakes that rack': the rule's
 unfoldable pub bakes : Board → Option Job
-bakes b = baked (b .slot .0) (b .depth) (held b)
+bakes b = baked (slot-of b) (b .depth) (held b)
 
 unfoldable pub given-up : Board → List Job
 given-up b = given-up-with b (ticket-of (bakes b))

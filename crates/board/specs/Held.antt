@@ -14,6 +14,10 @@ use Rattle.board.specs.Limits.{places-held}
 abbrev pub slot-number : ℕ → Slot
 slot-number n = record { 0 = n }
 
+-- A board is read through two definitions: its present slot, and its jobs, `held`.
+abbrev pub slot-of : Board → ℕ
+slot-of b = b .slot .0
+
 -- a place read as a job
 unfoldable pub job-in : Place → Job
 job-in x = record { ticket = x .ticket; admitted = x .admitted .0; last = x .last .0; grade = x .grade }
@@ -31,7 +35,7 @@ held b = map job-in (used b)
 
 -- how many of the jobs on the board were admitted in its slot
 unfoldable pub in-slot : Board → ℕ
-in-slot b = how-many (λ r. eqb (r .admitted) (b .slot .0)) (held b)
+in-slot b = how-many (λ r. eqb (r .admitted) (slot-of b)) (held b)
 
 -- the places in use whose jobs pass the test
 unfoldable pub passing : Board → (Job → Bool) → List Place

@@ -10,7 +10,7 @@ use Rattle.rule.specs.Job.{Job}
 use Rattle.board.specs.declared.Place.{Place}
 use Rattle.board.specs.declared.Board.{Board}
 use Rattle.board.specs.Limits.{longest-laxity, most-in-slot, places-held, last-slot, deepest}
-use Rattle.board.specs.Held.{held}
+use Rattle.board.specs.Held.{slot-of, held}
 
 -- 'A board holds [..] 256 places': here places are a list
 abbrev pub has-all-places : Board → Bool
@@ -22,11 +22,11 @@ depth-in-range b = leb (b .depth) deepest
 
 -- 'slot is 1 [..]'
 abbrev pub slot-from-one : Board → Bool
-slot-from-one b = leb 1 (b .slot .0)
+slot-from-one b = leb 1 (slot-of b)
 
 -- 'slot is [..] to 1,000,001'
 abbrev pub slot-to-end : Board → Bool
-slot-to-end b = leb (b .slot .0) (suc last-slot)
+slot-to-end b = leb (slot-of b) (suc last-slot)
 
 -- 'count is at most 256'
 abbrev pub count-in-range : Board → Bool
@@ -61,11 +61,11 @@ admitted-never-fall b = never-falling (map (λ (r : Job). r .admitted) (held b))
 
 -- 'for each rack admitted slot ≤ present slot'
 abbrev pub admitted-by-now : Board → Bool
-admitted-by-now b = every (λ (r : Job). leb (r .admitted) (b .slot .0)) (held b)
+admitted-by-now b = every (λ (r : Job). leb (r .admitted) (slot-of b)) (held b)
 
 -- 'for each rack [..] present slot ≤ last slot'
 abbrev pub in-date : Board → Bool
-in-date b = every (λ (r : Job). leb (b .slot .0) (r .last)) (held b)
+in-date b = every (λ (r : Job). leb (slot-of b) (r .last)) (held b)
 
 -- 'for each rack [..] last slot − admitted slot ≤ 31': below the longest laxity
 abbrev pub laxity-in-range : Board → Bool

@@ -10,6 +10,7 @@ use Rattle.books.specs.Rule.{Rule, made-by}
 use Rattle.books.specs.Rival.{Setting, Level, count-of}
 use Rattle.board.specs.declared.Board.{Board}
 use Rattle.board.specs.Sound.{sound}
+use Rattle.board.specs.Held.{slot-of}
 use Rattle.claims.specs.Calls.{Call}
 use Rattle.claims.specs.DayBook.{day-book}
 use Rattle.claims.specs.OurPlan.{our-plan}
@@ -21,7 +22,7 @@ setting b begins = record { depth = b .depth; allowed = λ g. true; begins = beg
 
 -- the day book of a list of calls that starts from the board b
 unfoldable pub book-of : Board → List Call → Book
-book-of b cs = day-book (b .depth) (b .slot .0) (b .highest) cs
+book-of b cs = day-book (b .depth) (slot-of b) (b .highest) cs
 
 pub record Unbeaten (b : Board) (cs : List Call) : Type 0 where
   -- our answers are a plan of the day book

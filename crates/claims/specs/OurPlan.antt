@@ -5,6 +5,7 @@ use Prim.Native.Nat.{ℕ}
 use Rattle.books.specs.Book.{Book}
 use Rattle.books.specs.Schedule.{Schedule, from-slot}
 use Rattle.board.specs.declared.Board.{Board}
+use Rattle.board.specs.Held.{slot-of}
 use Rattle.claims.specs.Calls.{Call, admit, close, board-after, ticket-named}
 use Rattle.claims.specs.DayBook.{new-book, lets-through, book-after}
 
@@ -22,4 +23,4 @@ named d B b (c ∷ cs) =
 
 -- 'Our board's plan gives slot j the rack named in the answer of the closing that ended slot j, and none where that was 'empty'.'
 unfoldable pub our-plan : Board → List Call → Schedule
-our-plan b cs = from-slot (b .slot .0) (named (b .depth) (new-book (b .slot .0) (b .highest)) b cs)
+our-plan b cs = from-slot (slot-of b) (named (b .depth) (new-book (slot-of b) (b .highest)) b cs)

@@ -13,6 +13,7 @@ use Rattle.board.specs.Admit.{admitted}
 use Rattle.board.specs.Close.{closed, given-up}
 use Rattle.board.specs.Tally.{zero-tally, count-at}
 use Rattle.board.specs.Events.{admitted-kind, baked-kind, given-up-kind, admit-events, close-events, fed}
+use Rattle.board.specs.Held.{slot-of}
 use Rattle.lines.specs.Bytes.{Bytes, lines, letter-A, letter-B, letter-D, letter-G, letter-R, letter-T}
 use Rattle.lines.specs.Reading.{line-number, Request, open-board, admit-job, close-slot, request}
 use Rattle.lines.specs.Printing.{printed}
@@ -65,7 +66,7 @@ answer-close s b i =
     let r = closed b places-held in
     cond (eqb (r .refusal) 0)
     (record {
-      output = printed letter-B (b .slot .0 ∷ r .ticket ∷ r .grade ∷ r .expired ∷ []) ++ printed-gone (b .slot .0) (given-up b);
+      output = printed letter-B (slot-of b ∷ r .ticket ∷ r .grade ∷ r .expired ∷ []) ++ printed-gone (slot-of b) (given-up b);
       session = record { board = some (r .board); tally = fed (s .tally) (close-events b places-held) };
     })
     (refused s i (r .refusal))

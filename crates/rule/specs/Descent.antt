@@ -1,5 +1,5 @@
 -- The search by bits for the grade to bake, at any depth d, and the no-regret set.
-use mathlib.Core.Bool.{Bool, true, false, not}
+use mathlib.Core.Bool.{Bool, false, not}
 use mathlib.Core.List.{List, [], _∷_, _++_}
 use Prim.Native.Nat.{ℕ, zero, suc}
 use Rattle.lists.specs.Select.{has}

@@ -1,6 +1,6 @@
 -- A job: 01's rack. Its slots are plain numbers of the day book.
 use mathlib.Core.Bool.{Bool}
-use Prim.Native.Nat.{ℕ, suc, _+_, _-_}
+use Prim.Native.Nat.{ℕ, _+_, _-_}
 use lib.Dec.{leb}
 
 -- 'A rack has a ticket, the slot in which it was admitted, its last slot, and a grade.'

@@ -8,7 +8,7 @@ use Rattle.lists.proofs.Rising.{rise-above}
 use Rattle.rule.specs.Job.{Job, laxity}
 use Rattle.rule.specs.Bake.{baked}
 use Rattle.board.specs.declared.Board.{Board}
-use Rattle.board.specs.Held.{held}
+use Rattle.board.specs.Held.{slot-of, held}
 use Rattle.board.specs.Sound.{sound}
 use Rattle.board.specs.Close.{bakes}
 use Rattle.board.proofs.Soundness.Apart.{facts}
@@ -19,7 +19,7 @@ pub sees-all : (b : Board) → sound b ≡ true → seen b ≡ held b
 unfolding seen laxity
 sees-all b s =
     let f = facts b s in
-    select-all (seen-job (b .slot .0) (b .depth)) (held b)
+    select-all (seen-job (slot-of b) (b .depth)) (held b)
     (λ r m.
     let j = f .each r m in
     facts-seen _ _ r
@@ -33,4 +33,4 @@ sees-all b s =
 
 pub bakes-sound : (b : Board) → sound b ≡ true → bakes-seen b ≡ bakes b
 unfolding bakes-seen bakes
-bakes-sound b s = ap (baked (b .slot .0) (b .depth)) (sees-all b s)
+bakes-sound b s = ap (baked (slot-of b) (b .depth)) (sees-all b s)

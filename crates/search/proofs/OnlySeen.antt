@@ -17,7 +17,7 @@ use Rattle.rule.specs.Bake.{soonest, baked}
 use Rattle.board.specs.declared.Place.{Place}
 use Rattle.board.specs.declared.Board.{Board}
 use Rattle.board.specs.Limits.{places-held, deepest}
-use Rattle.board.specs.Held.{job-in, used, held}
+use Rattle.board.specs.Held.{slot-of, job-in, used, held}
 use Rattle.search.specs.Seen.{seen-job, seen, bakes-seen}
 use Rattle.search.specs.Inside.{SeenOf}
 use Rattle.search.proofs.Seeing.{facts-seen, member-seen, none-seen}
@@ -27,14 +27,14 @@ use Rattle.search.proofs.Walk.{place-at, jobs-to, jobs-all, one-more, n
 pub record Kept (b : Board) (i kept : ℕ) (places : List Place) : Type 0 where
   pub few : kept ≤ i
   pub long : length places ≡ length (b .places)
-  pub jobs : map job-in (take kept places) ≡ select (seen-job (b .slot .0) (b .depth)) (jobs-to b i)
+  pub jobs : map job-in (take kept places) ≡ select (seen-job (slot-of b) (b .depth)) (jobs-to b i)
 
 pub kept-none : (b : Board) → Kept b 0 0 (b .places)
 unfolding select
 kept-none b = record { few = omega arith; long = refl; jobs = refl }
 
 module _ (b : Board) (i kept : ℕ) (places : List Place) (there : i < length (b .places)) (k : Kept b i kept places) where
-  pub kept-more : seen-job (b .slot .0) (b .depth) (job-in (place-at b i)) ≡ true → Kept b (i + 1) (kept + 1) (set places kept (place-at b i))
+  pub kept-more : seen-job (slot-of b) (b .depth) (job-in (place-at b i)) ≡ true → Kept b (i + 1) (kept + 1) (set places kept (place-at b i))
   kept-more e =
       record {
         few = omega (arith, k .few);
@@ -44,7 +44,7 @@ module _ (b : Board) (i kept : ℕ) (places : List Place) (there : i < length (b
             (map-append job-in (take kept places) (place-at b i ∷ []) ∙ ap (λ l. l ++ (job-in (place-at b i) ∷ [])) (k .jobs) ∙ sym (one-more b i there _ e));
       }
 
-  pub kept-same : seen-job (b .slot .0) (b .depth) (job-in (place-at b i)) ≡ false → Kept b (i + 1) kept places
+  pub kept-same : seen-job (slot-of b) (b .depth) (job-in (place-at b i)) ≡ false → Kept b (i + 1) kept places
   kept-same e = record { few = omega (arith, k .few); long = k .long; jobs = k .jobs ∙ sym (none-more b i there _ e) }
 
 -- once all places are looked at
@@ -55,9 +55,9 @@ module _ (b : Board) (full : length (b .places) ≡ places-held) (shallow : b .d
 
   left-jobs : held left ≡ seen b
   unfolding held used seen
-  left-jobs = k .jobs ∙ ap (select (seen-job (b .slot .0) (b .depth))) (jobs-all b i full e)
+  left-jobs = k .jobs ∙ ap (select (seen-job (slot-of b) (b .depth))) (jobs-all b i full e)
 
-  left-each : (r : Job) → List·Memᴰ r (held left) → seen-job (b .slot .0) (b .depth) r ≡ true
+  left-each : (r : Job) → List·Memᴰ r (held left) → seen-job (slot-of b) (b .depth) r ≡ true
   left-each r m = facts-seen _ _ r (member-seen b r (subst (List·Memᴰ r) left-jobs m))
 
   pub seen-of : SeenOf b left
@@ -70,9 +70,9 @@ module _ (b : Board) (full : length (b .places) ≡ places-held) (shallow : b .d
       }
 
 -- what that board bakes
-pub bakes-of : (b s : Board) → SeenOf b s → baked (s .slot .0) (s .depth) (held s) ≡ bakes-seen b
+pub bakes-of : (b s : Board) → SeenOf b s → baked (slot-of s) (s .depth) (held s) ≡ bakes-seen b
 unfolding bakes-seen
-bakes-of b s f = ap₂ (λ now d. baked now d (held s)) (f .slot) (f .depth) ∙ ap (baked (b .slot .0) (b .depth)) (f .jobs)
+bakes-of b s f = ap₂ (λ now d. baked now d (held s)) (f .slot) (f .depth) ∙ ap (baked (slot-of b) (b .depth)) (f .jobs)
 
 -- at a depth above the greatest nothing is baked
 pub bakes-none : (b : Board) → deepest < b .depth → bakes-seen b ≡ none

@@ -15,7 +15,7 @@ use Rattle.lists.proofs.Members.{every-mem, select-mem}
 use Rattle.rule.specs.Job.{Job, laxity, in-date}
 use Rattle.board.specs.declared.Board.{Board}
 use Rattle.board.specs.Limits.{longest-laxity, deepest}
-use Rattle.board.specs.Held.{held}
+use Rattle.board.specs.Held.{slot-of, held}
 use Rattle.search.specs.Seen.{seen-job, seen}
 
 pub record JobSeen (now d : ℕ) (r : Job) : Type 0 where
@@ -69,9 +69,9 @@ seen-by-grade now d r shallow ticketed date short = same-test (eqb (r .grade / 2
     back : seen-job now d r ≡ true → eqb (r .grade / 2 ^ d) 0 ≡ true
     back h = eq-eqb (r .grade / 2 ^ d) 0 (div-eq-of-lt (seen-facts now d r h .graded))
 
-pub member-seen : (b : Board) (r : Job) → List·Memᴰ r (seen b) → JobSeen (b .slot .0) (b .depth) r
+pub member-seen : (b : Board) (r : Job) → List·Memᴰ r (seen b) → JobSeen (slot-of b) (b .depth) r
 unfolding seen
-member-seen b r m = seen-facts _ _ r (select-mem (seen-job (b .slot .0) (b .depth)) r (held b) m .1)
+member-seen b r m = seen-facts _ _ r (select-mem (seen-job (slot-of b) (b .depth)) r (held b) m .1)
 
 -- at a depth above the greatest no job is seen
 pub none-seen : (b : Board) → deepest < b .depth → seen b ≡ []

@@ -18,7 +18,7 @@ use Rattle.rule.specs.Grade.{graded, starting}
 use Rattle.board.specs.declared.Place.{Place}
 use Rattle.board.specs.declared.Board.{Board}
 use Rattle.board.specs.Limits.{longest-laxity, places-held, deepest}
-use Rattle.board.specs.Held.{job-in, blank, used, held}
+use Rattle.board.specs.Held.{slot-of, job-in, blank, used, held}
 use Rattle.search.specs.Inside.{AllSeen, Start, first-bits, starting-so}
 use Rattle.search.proofs.Seeing.{JobSeen, seen-facts}
 use Rattle.search.proofs.Start.{starts-so, start-small, start-short}
@@ -35,7 +35,7 @@ abbrev pub starts-in : Board → (start left : ℕ) → Job → Bool
 starts-in b start left = graded (b .depth) (first-bits (b .depth) start left)
 
 abbrev pub within : Board → (start left l : ℕ) → Job → Bool
-within b start left l r = starts-in b start left r && leb (laxity (b .slot .0) r) l
+within b start left l r = starts-in b start left r && leb (laxity (slot-of b) r) l
 
 -- all jobs passed
 pub starts-all : (b : Board) (start left i : ℕ) → i ≡ b .count → select (starts-in b start left) (jobs-to b i) ≡ starting-so b start left
@@ -43,10 +43,10 @@ unfolding starting held used
 starts-all b start left i e = ap (λ n. select (starts-in b start left) (jobs-to b n)) e
 
 pub within-all : (b : Board) (start left l i : ℕ) → i ≡ b .count
-    → select (within b start left l) (jobs-to b i) ≡ select (λ r. leb (laxity (b .slot .0) r) l) (starting-so b start left)
+    → select (within b start left l) (jobs-to b i) ≡ select (λ r. leb (laxity (slot-of b) r) l) (starting-so b start left)
 within-all b start left l i e =
-    sym (select-select (λ r. leb (laxity (b .slot .0) r) l) (starts-in b start left) (jobs-to b i))
-    ∙ ap (select (λ r. leb (laxity (b .slot .0) r) l)) (starts-all b start left i e)
+    sym (select-select (λ r. leb (laxity (slot-of b) r) l) (starts-in b start left) (jobs-to b i))
+    ∙ ap (select (λ r. leb (laxity (slot-of b) r) l)) (starts-all b start left i e)
 
 take-mem : {A : Type 0} (l : List A) (n i : ℕ) (d : A) → i < n → i < length l → List·Memᴰ (getD l i d) (take n l)
 take-mem [] n i d h k = absurd (omega arith)
@@ -96,10 +96,10 @@ module _ (b : Board) (s : AllSeen b) where
     unfolding held used
     place-mem = Memᴰ·map job-in (take-mem (b .places) (b .count) i blank h place-there)
 
-    pub place-seen : JobSeen (b .slot .0) (b .depth) (job-in (place-at b i))
+    pub place-seen : JobSeen (slot-of b) (b .depth) (job-in (place-at b i))
     place-seen = seen-facts _ _ _ (s .each (job-in (place-at b i)) place-mem)
 
-    pub place-in-date : b .slot .0 ≤ place-at b i .last .0
+    pub place-in-date : slot-of b ≤ place-at b i .last .0
     unfolding job-in
     place-in-date = place-seen .in-date
 
@@ -109,7 +109,7 @@ module _ (b : Board) (s : AllSeen b) where
 
     -- what `is_within` asks there
     pub place-asks : (start left : ℕ) → Start (b .depth) start left
-        → (left ≤ deepest) × (b .slot .0 ≤ place-at b i .last .0) × (laxity (b .slot .0) (job-in (place-at b i)) ≤ longest-laxity)
+        → (left ≤ deepest) × (slot-of b ≤ place-at b i .last .0) × (laxity (slot-of b) (job-in (place-at b i)) ≤ longest-laxity)
     place-asks start left fits = (few-left start left fits, place-in-date, place-seen .short)
 
     pub place-starts : (start left : ℕ) → Start (b .depth) start left
@@ -118,5 +118,5 @@ module _ (b : Board) (s : AllSeen b) where
     place-starts start left fits = starts-so (b .depth) left start fits (job-in (place-at b i)) (place-seen .graded)
 
     pub place-within : (start left l : ℕ) → Start (b .depth) start left
-        → within b start left l (job-in (place-at b i)) ≡ (eqb (place-at b i .grade / 2 ^ left) start && leb (laxity (b .slot .0) (job-in (place-at b i))) l)
-    place-within start left l fits = ap (λ c. c && leb (laxity (b .slot .0) (job-in (place-at b i))) l) (place-starts start left fits)
+        → within b start left l (job-in (place-at b i)) ≡ (eqb (place-at b i .grade / 2 ^ left) start && leb (laxity (slot-of b) (job-in (place-at b i))) l)
+    place-within start left l fits = ap (λ c. c && leb (laxity (slot-of b) (job-in (place-at b i))) l) (place-starts start left fits)

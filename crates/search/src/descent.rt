@@ -5,7 +5,7 @@ ghost use mathlib.Core.List.{[], _∷_, _++_};
 ghost use Prim.Native.Nat.{_-_, _^_, _≤_, _<_};
 ghost use Rattle.rule.specs.Grade.{bits};
 ghost use Rattle.rule.specs.Descent.{next-bit, descend as descent};
-ghost use Rattle.board.specs.Held.{held};
+ghost use Rattle.board.specs.Held.{slot-of, held};
 ghost use Rattle.search.specs.Inside.{AllSeen, Start, first-bits};
 use crate::tight;
 use crate::within;
@@ -14,7 +14,7 @@ use board::Board;
 // Whether a job of the tight set of the jobs whose grade starts so has 0 for its next bit.
 fn has_zero(b: Board, start: u8, left: u8) -> bool
     requires { ⌜ AllSeen b × Start (b .depth) start left × (1 ≤ left) ⌝ }
-    ensures { λ r. ⌜ r ≡ not (next-bit (b .slot .0) (b .depth) (held b) (first-bits (b .depth) start left)) ⌝ }
+    ensures { λ r. ⌜ r ≡ not (next-bit (slot-of b) (b .depth) (held b) (first-bits (b .depth) start left)) ⌝ }
 {
     let l = tight::tight(b, start, left);
     let n = within::count_within(b, start * 2, left - 1, l);
@@ -24,7 +24,7 @@ fn has_zero(b: Board, start: u8, left: u8) -> bool
 // The start with its next bit: 0 where a job of the tight set has it, otherwise 1.
 fn next_start(b: Board, start: u8, left: u8) -> u8
     requires { ⌜ AllSeen b × Start (b .depth) start left × (1 ≤ left) ⌝ }
-    ensures { λ r. ⌜ (first-bits (b .depth) r (left - 1) ≡ first-bits (b .depth) start left ++ (next-bit (b .slot .0) (b .depth) (held b) (first-bits (b .depth) start left) ∷ [])) × Start (b .depth) r (left - 1) ⌝ }
+    ensures { λ r. ⌜ (first-bits (b .depth) r (left - 1) ≡ first-bits (b .depth) start left ++ (next-bit (slot-of b) (b .depth) (held b) (first-bits (b .depth) start left) ∷ [])) × Start (b .depth) r (left - 1) ⌝ }
 {
     if has_zero(b, start, left) {
         return start * 2;
@@ -35,7 +35,7 @@ fn next_start(b: Board, start: u8, left: u8) -> u8
 // The grade that the search from a start ends at: it goes on with the next bit, and one bit fewer left.
 pub(crate) fn descend(b: Board, start: u8, left: u8) -> u8
     requires { ⌜ AllSeen b × Start (b .depth) start left ⌝ }
-    ensures { λ r. ⌜ (bits (b .depth) r ≡ descent (b .slot .0) (b .depth) (held b) left (first-bits (b .depth) start left)) × (r < 2 ^ b .depth) ⌝ }
+    ensures { λ r. ⌜ (bits (b .depth) r ≡ descent (slot-of b) (b .depth) (held b) left (first-bits (b .depth) start left)) × (r < 2 ^ b .depth) ⌝ }
 {
     if left == 0 {
         return start;

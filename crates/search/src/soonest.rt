@@ -5,7 +5,7 @@ ghost use lib.Dec.{leb, eqb};
 ghost use Rattle.lists.specs.Select.{select};
 ghost use Rattle.rule.specs.Job.{Job, laxity};
 ghost use Rattle.rule.specs.Bake.{sooner as is-sooner, soonest as soonest-in, ticket-of, grade-of};
-ghost use Rattle.board.specs.Held.{job-in};
+ghost use Rattle.board.specs.Held.{slot-of, job-in};
 ghost use Rattle.search.specs.Inside.{AllSeen, Start, starting-so};
 use crate::Baked;
 use crate::within;
@@ -40,8 +40,8 @@ fn take_sooner(best: Place, p: Place) -> Place
 // The soonest of the jobs whose grade starts so and whose laxity is `l` or less.
 pub(crate) fn soonest(b: Board, start: u8, left: u8, l: Laxity) -> Baked
     requires { ⌜ AllSeen b × Start (b .depth) start left ⌝ }
-    ensures { λ r. ⌜ r .ticket ≡ ticket-of (soonest-in (select (λ (q : Job). leb (laxity (b .slot .0) q) (l .0)) (starting-so b start left))) ⌝ }
-    ensures { λ r. ⌜ r .grade ≡ grade-of (soonest-in (select (λ (q : Job). leb (laxity (b .slot .0) q) (l .0)) (starting-so b start left))) ⌝ }
+    ensures { λ r. ⌜ r .ticket ≡ ticket-of (soonest-in (select (λ (q : Job). leb (laxity (slot-of b) q) (l .0)) (starting-so b start left))) ⌝ }
+    ensures { λ r. ⌜ r .grade ≡ grade-of (soonest-in (select (λ (q : Job). leb (laxity (slot-of b) q) (l .0)) (starting-so b start left))) ⌝ }
 {
     let count = b.count;
     let now = b.slot;

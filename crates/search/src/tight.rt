@@ -6,6 +6,7 @@ ghost use lib.IntN.{pos, _-ℤ_};
 ghost use lib.Signed.{leZ};
 ghost use Rattle.rule.specs.Tight.{tight-laxity};
 ghost use Rattle.board.specs.Limits.{longest-laxity, places-held};
+ghost use Rattle.board.specs.Held.{slot-of};
 ghost use Rattle.search.specs.Inside.{AllSeen, Start, starting-so, comes-before};
 use crate::within;
 use board::Board;
@@ -62,7 +63,7 @@ fn better(x: i32, l: Laxity, best: Best) -> Best
 // The tight laxity of the jobs whose grade starts so: the least whose excess is smallest; 0 where there are no such jobs.
 pub(crate) fn tight(b: Board, start: u8, left: u8) -> Laxity
     requires { ⌜ AllSeen b × Start (b .depth) start left ⌝ }
-    ensures { λ r. ⌜ r .0 ≡ tight-laxity (b .slot .0) (starting-so b start left) ⌝ }
+    ensures { λ r. ⌜ r .0 ≡ tight-laxity (slot-of b) (starting-so b start left) ⌝ }
 {
     let count = b.count;
     let now = b.slot;

@@ -6,7 +6,7 @@ ghost use lib.Dec.{leb, eqb};
 ghost use Rattle.lists.specs.Select.{how-many};
 ghost use Rattle.rule.specs.Job.{Job, laxity};
 ghost use Rattle.board.specs.Limits.{deepest, longest-laxity, places-held};
-ghost use Rattle.board.specs.Held.{job-in};
+ghost use Rattle.board.specs.Held.{slot-of, job-in};
 ghost use Rattle.search.specs.Inside.{AllSeen, Start, starting-so};
 use board::Board;
 use board::Laxity;
@@ -44,7 +44,7 @@ pub(crate) fn is_within(now: Slot, p: Place, start: u8, left: u8, l: Laxity) -> 
 // How many of the jobs whose grade starts so have laxity `l` or less.
 pub(crate) fn count_within(b: Board, start: u8, left: u8, l: Laxity) -> u32
     requires { ⌜ AllSeen b × Start (b .depth) start left ⌝ }
-    ensures { λ r. ⌜ (r ≡ how-many (λ (q : Job). leb (laxity (b .slot .0) q) (l .0)) (starting-so b start left)) × (r ≤ places-held) ⌝ }
+    ensures { λ r. ⌜ (r ≡ how-many (λ (q : Job). leb (laxity (slot-of b) q) (l .0)) (starting-so b start left)) × (r ≤ places-held) ⌝ }
 {
     let count = b.count;
     let now = b.slot;

@@ -13,7 +13,7 @@ use Rattle.lists.proofs.Spread.{sharing}
 use Rattle.rule.specs.Job.{Job}
 use Rattle.board.specs.declared.Board.{Board}
 use Rattle.board.specs.Limits.{most-in-slot, places-held, deepest}
-use Rattle.board.specs.Held.{used, held}
+use Rattle.board.specs.Held.{slot-of, used, held}
 use Rattle.board.specs.Sound.{blank-past-count, sound}
 use Rattle.board.proofs.Soundness.Facts.{admitted-in}
 use Rattle.board.proofs.Soundness.Apart.{blanks, facts}
@@ -24,7 +24,7 @@ use Rattle.soundness.proofs.Walk.{Well, well-facts, facts-well}
 
 -- what the code tests, in its order
 abbrev pub tested : Board → Bool
-tested b = in-limits (b .depth) (b .slot .0) (b .count) && (all-well b nothing-seen (used b) && blank-past-count b)
+tested b = in-limits (b .depth) (slot-of b) (b .count) && (all-well b nothing-seen (used b) && blank-past-count b)
 
 pub within : (d k n : ℕ) → in-limits d k n ≡ true → (d ≤ deepest) × (n ≤ places-held)
 unfolding in-limits limit-tests
@@ -43,8 +43,8 @@ module _ (b : Board) where
   tested-sound : length (b .places) ≡ places-held → tested b ≡ true → sound b ≡ true
   unfolding in-limits limit-tests nothing-seen held
   tested-sound full h =
-      let passed = apart (λ t. t) (limit-tests (b .depth) (b .slot .0) (b .count)) (and-left _ _ h) in
-      let q = and-right (in-limits (b .depth) (b .slot .0) (b .count)) _ h in
+      let passed = apart (λ t. t) (limit-tests (b .depth) (slot-of b) (b .count)) (and-left _ _ h) in
+      let q = and-right (in-limits (b .depth) (slot-of b) (b .count)) _ h in
       let walked = all-well b nothing-seen (used b) in
       let w = well-facts b nothing-seen (used b) (omega arith) (and-left walked _ q) in
       all-sound b
@@ -74,7 +74,7 @@ module _ (b : Board) where
         each = f .each;
         few = λ k g. omega (arith, shares-most (nothing-seen .admitted .0) (nothing-seen .sharing) k, sharing (λ (r : Job). r .admitted) (held b) most-in-slot (f .intake) k);
       } in
-      and-intro _ _ (together (λ t. t) (limit-tests (b .depth) (b .slot .0) (b .count)) (omega (arith, le-leb)))
+      and-intro _ _ (together (λ t. t) (limit-tests (b .depth) (slot-of b) (b .count)) (omega (arith, le-leb)))
       (and-intro _ _ (facts-well b nothing-seen (used b) well) (blank-places b f))
 
   pub sound-is : length (b .places) ≡ places-held → tested b ≡ sound b

@@ -8,7 +8,7 @@ use lib.ListN.{length, getD, drop, drop-of-length-le}
 use lib.Seq.{drop-cons, slice, slice-cons, slice-empty}
 use Rattle.lists.specs.Select.{every}
 use Rattle.board.specs.declared.Board.{Board}
-use Rattle.board.specs.Held.{blank}
+use Rattle.board.specs.Held.{slot-of, blank}
 use Rattle.soundness.specs.declared.Seen.{Seen}
 use Rattle.soundness.specs.Walk.{seen-with, all-well}
 
@@ -25,7 +25,7 @@ module _ {A : Type 0} (p : A → Bool) (l : List A) (i : ℕ) where
 
 -- the next job goes into what is seen; g is the number of grades, as the code has it
 pub walk-step : (b : Board) (s r : Seen) (g i : ℕ) → g ≡ 2 ^ b .depth → i < b .count → b .count ≤ length (b .places)
-    → r ≡ seen-with (b .slot .0) g s (getD (b .places) i blank)
+    → r ≡ seen-with (slot-of b) g s (getD (b .places) i blank)
     → all-well b r (slice (i + 1) (b .count) (b .places)) ≡ all-well b s (slice i (b .count) (b .places))
 unfolding all-well
 walk-step b s r g i e h f q = rw (q, e, add-one, slice-cons i (b .count) (b .places) blank)

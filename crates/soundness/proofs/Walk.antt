@@ -17,7 +17,7 @@ use Rattle.rule.specs.Job.{Job}
 use Rattle.board.specs.declared.Place.{Place}
 use Rattle.board.specs.declared.Board.{Board}
 use Rattle.board.specs.Limits.{most-in-slot}
-use Rattle.board.specs.Held.{job-in}
+use Rattle.board.specs.Held.{slot-of, job-in}
 use Rattle.board.proofs.Soundness.Facts.{JobFacts, admitted-in}
 use Rattle.soundness.specs.declared.Seen.{Seen}
 use Rattle.soundness.specs.Walk.{sharing-with, is-short, next-tests, well-with, seen-with, all-well}
@@ -40,7 +40,7 @@ module _ (b : Board) where
   still-well : (s : Seen) (l : List Place) → all-well b s l ≡ true → s .well ≡ true
   unfolding all-well seen-with well-with next-tests
   still-well s [] h = and-left _ _ h
-  still-well s (x ∷ l) h = apart (λ t. t) (next-tests (b .slot .0) (2 ^ b .depth) s x) (still-well (seen-with (b .slot .0) (2 ^ b .depth) s x) l h) .0
+  still-well s (x ∷ l) h = apart (λ t. t) (next-tests (slot-of b) (2 ^ b .depth) s x) (still-well (seen-with (slot-of b) (2 ^ b .depth) s x) l h) .0
 
   pub well-facts : (s : Seen) (l : List Place) → s .sharing ≤ most-in-slot → all-well b s l ≡ true → Well b s l
   unfolding all-well seen-with well-with next-tests is-short rise never-fall how-many job-in
@@ -55,8 +55,8 @@ module _ (b : Board) where
         few = λ k g. omega (arith, shares-most (s .admitted .0) (s .sharing) k);
       }
   well-facts s (x ∷ l) m h =
-      let n = seen-with (b .slot .0) (2 ^ b .depth) s x in
-      let passed = apart (λ t. t) (next-tests (b .slot .0) (2 ^ b .depth) s x) (still-well n l h) in
+      let n = seen-with (slot-of b) (2 ^ b .depth) s x in
+      let passed = apart (λ t. t) (next-tests (slot-of b) (2 ^ b .depth) s x) (still-well n l h) in
       let f = well-facts n l (omega (arith, leb-true)) h in
       let rises : s .ticket < x .ticket = omega (arith, leb-true) in
       let forth : s .admitted .0 ≤ x .admitted .0 = omega (arith, leb-true) in
@@ -79,9 +79,9 @@ module _ (b : Board) where
       let few : sharing-with s x ≤ most-in-slot =
       omega (arith, sharing-is s x, f .few (x .admitted .0) forth, one-if-yes (eqb (x .admitted .0) (x .admitted .0)) (eq-eqb (x .admitted .0) (x .admitted .0) refl)) in
       let first = f .each (job-in x) (List·Memᴰ·head refl) in
-      facts-well (seen-with (b .slot .0) (2 ^ b .depth) s x) l
+      facts-well (seen-with (slot-of b) (2 ^ b .depth) s x) l
       record {
-        so-far = together (λ t. t) (next-tests (b .slot .0) (2 ^ b .depth) s x) (f .so-far, omega (arith, le-leb));
+        so-far = together (λ t. t) (next-tests (slot-of b) (2 ^ b .depth) s x) (f .so-far, omega (arith, le-leb));
         last-known = first .known;
         tickets-rise = and-right (ltb (s .ticket) (x .ticket)) _ (f .tickets-rise);
         slots-in-order = and-right (leb (s .admitted .0) (x .admitted .0)) _ (f .slots-in-order);

@@ -8,7 +8,7 @@ use Rattle.lists.specs.Select.{every}
 use Rattle.board.specs.declared.Place.{Place}
 use Rattle.board.specs.declared.Board.{Board}
 use Rattle.board.specs.Limits.{longest-laxity, most-in-slot, places-held, last-slot, deepest}
-use Rattle.board.specs.Held.{slot-number}
+use Rattle.board.specs.Held.{slot-of, slot-number}
 use Rattle.soundness.specs.declared.Seen.{Seen}
 
 -- the depth, the slot and the count are in their limits
@@ -58,4 +58,4 @@ seen-with k g s x = record { well = well-with k g s x; ticket = x .ticket; admit
 -- all is well after the places, and the last ticket does not pass the highest
 unfoldable pub all-well : Board → Seen → List Place → Bool
 all-well b s [] = s .well && leb (s .ticket) (b .highest)
-all-well b s (x ∷ l) = all-well b (seen-with (b .slot .0) (2 ^ b .depth) s x) l
+all-well b s (x ∷ l) = all-well b (seen-with (slot-of b) (2 ^ b .depth) s x) l

@@ -12,7 +12,7 @@ use Rattle.rule.specs.Bake.{stays}
 use Rattle.board.specs.declared.Place.{Place}
 use Rattle.board.specs.declared.Board.{Board}
 use Rattle.board.specs.Limits.{places-held}
-use Rattle.board.specs.Held.{slot-number, job-in, blank, used, held, passing, thinned}
+use Rattle.board.specs.Held.{slot-of, slot-number, job-in, blank, used, held, passing, thinned}
 use Rattle.board.specs.Admit.{last-of, with-job}
 use Rattle.board.specs.Close.{moved-on-with}
 use Rattle.lists.proofs.Parts.{select-map}
@@ -25,7 +25,7 @@ pub used-with-job : (b : Board) (t w g : ℕ) → b .count < length (b .places) 
 unfolding used with-job
 used-with-job b t w g h = rw add-one (take-suc-set (b .places) (b .count) (new-place b t w g) h)
 
-pub held-with-job : (b : Board) (t w g : ℕ) → b .count < length (b .places) → held (with-job b t w g) ≡ held b ++ (job t (b .slot .0) w g ∷ [])
+pub held-with-job : (b : Board) (t w g : ℕ) → b .count < length (b .places) → held (with-job b t w g) ≡ held b ++ (job t (slot-of b) w g ∷ [])
 unfolding held job-in job last-of
 held-with-job b t w g h = ap (map job-in) (used-with-job b t w g h) ∙ map-append job-in (used b) (new-place b t w g ∷ [])
 
@@ -34,6 +34,6 @@ unfolding held used thinned passing
 held-thinned b k test =
     ap (map job-in) (take-append-seam (passing b test) (replicate (places-held - length (passing b test)) blank)) ∙ select-map job-in test (used b)
 
-pub held-moved-on : (b : Board) (t : ℕ) → held (moved-on-with b t) ≡ select (stays (b .slot .0) t) (held b)
+pub held-moved-on : (b : Board) (t : ℕ) → held (moved-on-with b t) ≡ select (stays (slot-of b) t) (held b)
 unfolding moved-on-with
-held-moved-on b t = held-thinned b (b .slot .0 + 1) (stays (b .slot .0) t)
+held-moved-on b t = held-thinned b (slot-of b + 1) (stays (slot-of b) t)

@@ -10,7 +10,7 @@ use Rattle.rule.specs.Bake.{stays, ticket-of}
 use Rattle.board.specs.declared.Board.{Board}
 use Rattle.board.specs.Limits.{last-slot}
 use Rattle.board.specs.Rows.{first-given, admit-rows, close-rows}
-use Rattle.board.specs.Held.{in-slot}
+use Rattle.board.specs.Held.{slot-of, in-slot}
 use Rattle.board.specs.Sound.{sound}
 use Rattle.board.specs.Admit.{admit-number, with-job, admitted-if, admitted}
 use Rattle.board.specs.Close.{close-number, moved-on-with, closed-with, bakes, closed}
@@ -22,30 +22,30 @@ use Rattle.board.proofs.Calls.SoundAfterThinning.{after-thinning}
 
 -- on a sound board row 2 is never given
 pub admit-number-sound : (b : Board) (t w g : ℕ) → sound b ≡ true
-    → admit-number b t w g ≡ first-given (admit-rows (b .slot .0) (b .highest) (in-slot b) (b .depth) t w g)
+    → admit-number b t w g ≡ first-given (admit-rows (slot-of b) (b .highest) (in-slot b) (b .depth) t w g)
 unfolding admit-number
 admit-number-sound b t w g s = row-skipped 2 (not (sound b)) _ (ap not s)
 
-pub close-number-sound : (b : Board) (lent : ℕ) → sound b ≡ true → close-number b lent ≡ first-given (close-rows (b .slot .0) lent)
+pub close-number-sound : (b : Board) (lent : ℕ) → sound b ≡ true → close-number b lent ≡ first-given (close-rows (slot-of b) lent)
 unfolding close-number
 close-number-sound b lent s = row-skipped 2 (not (sound b)) _ (ap not s)
 
 pub with-job-sound : (b : Board) (t w g : ℕ) → sound b ≡ true → admit-number b t w g ≡ 0 → sound (with-job b t w g) ≡ true
 with-job-sound b t w g s e =
     all-sound (with-job b t w g)
-    (after-admitting b t w g (facts b s) (admits (b .slot .0) (b .highest) (in-slot b) (b .depth) t w g (sym (admit-number-sound b t w g s) ∙ e)))
+    (after-admitting b t w g (facts b s) (admits (slot-of b) (b .highest) (in-slot b) (b .depth) t w g (sym (admit-number-sound b t w g s) ∙ e)))
 
-pub moved-on-sound : (b : Board) (t : ℕ) → sound b ≡ true → (b .slot .0 ≡ suc last-slot → ⊥) → sound (moved-on-with b t) ≡ true
+pub moved-on-sound : (b : Board) (t : ℕ) → sound b ≡ true → (slot-of b ≡ suc last-slot → ⊥) → sound (moved-on-with b t) ≡ true
 unfolding moved-on-with stays
 moved-on-sound b t s going =
     let f = facts b s in
     all-sound (moved-on-with b t)
-    (after-thinning b f (b .slot .0 + 1) (stays (b .slot .0) t) (omega arith) (omega (arith, f .to-last, going))
-    (λ r m h. omega (arith, ltb-true (b .slot .0) (r .last) (and-left (ltb (b .slot .0) (r .last)) (not (eqb (r .ticket) t)) h))))
+    (after-thinning b f (slot-of b + 1) (stays (slot-of b) t) (omega arith) (omega (arith, f .to-last, going))
+    (λ r m h. omega (arith, ltb-true (slot-of b) (r .last) (and-left (ltb (slot-of b) (r .last)) (not (eqb (r .ticket) t)) h))))
 
 -- a closing that is not refused
-pub close-going : (b : Board) (lent : ℕ) → sound b ≡ true → close-number b lent ≡ 0 → b .slot .0 ≡ suc last-slot → ⊥
-close-going b lent s e = closes (b .slot .0) lent (sym (close-number-sound b lent s) ∙ e) .going
+pub close-going : (b : Board) (lent : ℕ) → sound b ≡ true → close-number b lent ≡ 0 → slot-of b ≡ suc last-slot → ⊥
+close-going b lent s e = closes (slot-of b) lent (sym (close-number-sound b lent s) ∙ e) .going
 
 -- soundness is kept
 pub admitted-sound : (b : Board) (t w g : ℕ) → sound b ≡ true → sound (admitted b t w g .board) ≡ true

@@ -19,7 +19,7 @@ use Rattle.rule.specs.Job.{Job, job}
 use Rattle.board.specs.declared.Place.{Place}
 use Rattle.board.specs.declared.Board.{Board}
 use Rattle.board.specs.Limits.{longest-laxity, most-in-slot}
-use Rattle.board.specs.Held.{blank, held, in-slot}
+use Rattle.board.specs.Held.{slot-of, blank, held, in-slot}
 use Rattle.board.specs.Admit.{with-job}
 use Rattle.lists.proofs.Parts.{never-fall-append, drop-mem-suc}
 use Rattle.lists.proofs.Spread.{sharing}
@@ -28,9 +28,9 @@ use Rattle.board.proofs.Soundness.FreePlace.{room}
 use Rattle.board.proofs.Calls.Rows.{Admits}
 use Rattle.board.proofs.Calls.HeldAfter.{new-place, held-with-job}
 
-module _ (b : Board) (t w g : ℕ) (f : SoundFacts b) (a : Admits (b .slot .0) (b .highest) (in-slot b) (b .depth) t w g) where
+module _ (b : Board) (t w g : ℕ) (f : SoundFacts b) (a : Admits (slot-of b) (b .highest) (in-slot b) (b .depth) t w g) where
   new-job : Job
-  new-job = job t (b .slot .0) w g
+  new-job = job t (slot-of b) w g
 
   free : b .count < length (b .places)
   free = omega (arith, f .full, room b f (a .room))
@@ -71,9 +71,9 @@ module _ (b : Board) (t w g : ℕ) (f : SoundFacts b) (a : Admits (b .slot .0) (
   unfolding new-job job never-fall
   in-order =
       ap (never-fall 1) (along (λ (r : Job). r .admitted))
-      ∙ never-fall-append 1 (b .slot .0) (map (λ (r : Job). r .admitted) (held b)) (b .slot .0 ∷ []) (f .slots-in-order)
-      (bounded (λ (r : Job). r .admitted) (b .slot .0) (λ r m. f .each r m .begun)) (f .from-first)
-      (and-intro (leb (b .slot .0) (b .slot .0)) true (le-leb (b .slot .0) (b .slot .0) (omega arith)) refl)
+      ∙ never-fall-append 1 (slot-of b) (map (λ (r : Job). r .admitted) (held b)) (slot-of b ∷ []) (f .slots-in-order)
+      (bounded (λ (r : Job). r .admitted) (slot-of b) (λ r m. f .each r m .begun)) (f .from-first)
+      (and-intro (leb (slot-of b) (slot-of b)) true (le-leb (slot-of b) (slot-of b) (omega arith)) refl)
 
   new : JobFacts (with-job b t w g) new-job
   unfolding with-job new-job job longest-laxity
@@ -106,13 +106,13 @@ module _ (b : Board) (t w g : ℕ) (f : SoundFacts b) (a : Admits (b .slot .0) (
   taken : (k : ℕ) → admitted-in k (held (with-job b t w g)) ≤ most-in-slot
   unfolding new-job job how-many in-slot
   taken k =
-      omega (arith, ap (admitted-in k) jobs, count-append (λ (q : Job). eqb (q .admitted) k) (held b) (new-job ∷ []), go (test (eqb (b .slot .0) k)))
+      omega (arith, ap (admitted-in k) jobs, count-append (λ (q : Job). eqb (q .admitted) k) (held b) (new-job ∷ []), go (test (eqb (slot-of b) k)))
     where
-      go : (eqb (b .slot .0) k ≡ true) ⊎ (eqb (b .slot .0) k ≡ false) → admitted-in k (held b) + one-if (eqb (b .slot .0) k) ≤ most-in-slot
+      go : (eqb (slot-of b) k ≡ true) ⊎ (eqb (slot-of b) k ≡ false) → admitted-in k (held b) + one-if (eqb (slot-of b) k) ≤ most-in-slot
       go (inl e) =
-          omega (arith, a .room, one-if-most (eqb (b .slot .0) k), ap (λ n. admitted-in n (held b)) (eqb-true (b .slot .0) k e))
+          omega (arith, a .room, one-if-most (eqb (slot-of b) k), ap (λ n. admitted-in n (held b)) (eqb-true (slot-of b) k e))
       go (inr e) =
-          omega (arith, one-if-no (eqb (b .slot .0) k) e, sharing (λ (q : Job). q .admitted) (held b) most-in-slot (f .intake) k)
+          omega (arith, one-if-no (eqb (slot-of b) k) e, sharing (λ (q : Job). q .admitted) (held b) most-in-slot (f .intake) k)
 
   pub after-admitting : SoundFacts (with-job b t w g)
   unfolding with-job

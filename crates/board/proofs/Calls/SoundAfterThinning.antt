@@ -15,12 +15,12 @@ use Rattle.lists.proofs.Counting.{count-select, count-length, count-mono, count
 use Rattle.rule.specs.Job.{Job}
 use Rattle.board.specs.declared.Board.{Board}
 use Rattle.board.specs.Limits.{most-in-slot, places-held, last-slot}
-use Rattle.board.specs.Held.{job-in, blank, used, held, passing, thinned}
+use Rattle.board.specs.Held.{slot-of, job-in, blank, used, held, passing, thinned}
 use Rattle.lists.proofs.Parts.{rise-select, never-fall-select, replicate-mem}
 use Rattle.board.proofs.Soundness.Facts.{JobFacts, SoundFacts, admitted-in}
 use Rattle.board.proofs.Calls.HeldAfter.{held-thinned}
 
-module _ (b : Board) (f : SoundFacts b) (k : ℕ) (test : Job → Bool) (later : b .slot .0 ≤ k) (last : k ≤ suc last-slot)
+module _ (b : Board) (f : SoundFacts b) (k : ℕ) (test : Job → Bool) (later : slot-of b ≤ k) (last : k ≤ suc last-slot)
     (dated : (r : Job) → List·Memᴰ r (held b) → test r ≡ true → k ≤ r .last) where
   jobs : held (thinned b k test) ≡ select test (held b)
   jobs = held-thinned b k test

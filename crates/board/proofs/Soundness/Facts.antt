@@ -11,13 +11,13 @@ use Rattle.rule.specs.Job.{Job}
 use Rattle.board.specs.declared.Place.{Place}
 use Rattle.board.specs.declared.Board.{Board}
 use Rattle.board.specs.Limits.{longest-laxity, most-in-slot, places-held, last-slot, deepest}
-use Rattle.board.specs.Held.{blank, held}
+use Rattle.board.specs.Held.{slot-of, blank, held}
 
 -- a job of a sound board
 pub record JobFacts (b : Board) (r : Job) : Type 0 where
   pub known : r .ticket ≤ b .highest
-  pub begun : r .admitted ≤ b .slot .0
-  pub in-date : b .slot .0 ≤ r .last
+  pub begun : r .admitted ≤ slot-of b
+  pub in-date : slot-of b ≤ r .last
   pub short : r .last - r .admitted < longest-laxity
   pub graded : r .grade < 2 ^ b .depth
 
@@ -28,8 +28,8 @@ admitted-in k A = how-many (λ (q : Job). eqb (q .admitted) k) A
 pub record SoundFacts (b : Board) : Type 0 where
   pub full : length (b .places) ≡ places-held
   pub shallow : b .depth ≤ deepest
-  pub from-first : 1 ≤ b .slot .0
-  pub to-last : b .slot .0 ≤ suc last-slot
+  pub from-first : 1 ≤ slot-of b
+  pub to-last : slot-of b ≤ suc last-slot
   pub counted : b .count ≤ places-held
   pub blank-past : (x : Place) → List·Memᴰ x (drop (b .count) (b .places)) → x ≡ blank
   pub tickets-rise : rise 0 (map (λ (r : Job). r .ticket) (held b)) ≡ true

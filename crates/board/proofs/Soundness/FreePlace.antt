@@ -11,7 +11,7 @@ use Rattle.lists.proofs.Counting.{count-mono}
 use Rattle.rule.specs.Job.{Job}
 use Rattle.board.specs.declared.Board.{Board}
 use Rattle.board.specs.Limits.{longest-laxity, most-in-slot, places-held}
-use Rattle.board.specs.Held.{held, in-slot}
+use Rattle.board.specs.Held.{slot-of, held, in-slot}
 use Rattle.board.specs.Sound.{sound}
 use Rattle.lists.proofs.Spread.{spread}
 use Rattle.board.proofs.Soundness.Facts.{SoundFacts}
@@ -21,7 +21,7 @@ use Rattle.board.proofs.Soundness.HeldCount.{held-count}
 module _ (b : Board) (f : SoundFacts b) where
   -- how long ago a job was admitted
   age : Job → ℕ
-  age r = b .slot .0 - r .admitted
+  age r = slot-of b - r .admitted
 
   -- jobs of one age share their admitted slot
   shared : (r : Job) → List·Memᴰ r (held b) → how-many (λ (q : Job). eqb (age q) (age r)) (held b) ≤ most-in-slot
@@ -41,8 +41,8 @@ module _ (b : Board) (f : SoundFacts b) where
   new : how-many (λ (q : Job). eqb (age q) 0) (held b) ≤ in-slot b
   unfolding age in-slot
   new =
-      count-mono (λ (q : Job). eqb (age q) 0) (λ (q : Job). eqb (q .admitted) (b .slot .0)) (held b)
-      (λ q i e. eq-eqb (q .admitted) (b .slot .0) (omega (arith, eqb-true (age q) 0 e, f .each q i .begun)))
+      count-mono (λ (q : Job). eqb (age q) 0) (λ (q : Job). eqb (q .admitted) (slot-of b)) (held b)
+      (λ q i e. eq-eqb (q .admitted) (slot-of b) (omega (arith, eqb-true (age q) 0 e, f .each q i .begun)))
 
   pub room : in-slot b < most-in-slot → b .count < places-held
   unfolding longest-laxity most-in-slot places-held

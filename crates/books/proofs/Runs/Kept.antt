@@ -1,16 +1,16 @@
 -- One closing of a rule that keeps to the no-regret set of order j: no job is in date, or one of that set is baked.
-use mathlib.Core.Path.{_≡_, refl, sym, ap, _∙_, subst}
-use mathlib.Core.Bool.{Bool, true, false, not, _&&_, _||_}
+use mathlib.Core.Path.{_≡_, refl, sym, ap, _∙_}
+use mathlib.Core.Bool.{true, false, not, _&&_}
 use mathlib.Core.Logic.{_⊎_, inl, inr}
 use mathlib.Core.Option.{Option, none, some}
-use mathlib.Core.List.{List, [], _∷_, List·Memᴰ}
+use mathlib.Core.List.{List, List·Memᴰ}
 use Prim.Native.Nat.{ℕ, suc, _≤_, _<_}
 use native.Mathlib.Omega.{arith}
-use lib.Dec.{leb, eqb}
+use lib.Dec.{eqb}
 use borrow.Author.Tests.{eqb-true, eq-eqb, le-leb, leb-true, not-true}
 use Rattle.lists.specs.Select.{select, has}
 use Rattle.lists.proofs.Tests.{never, and-intro, or-cases, or-left, or-right}
-use Rattle.lists.proofs.Members.{select-mem, has-mem, mem-has, has-none}
+use Rattle.lists.proofs.Members.{select-mem, has-mem, mem-has}
 use Rattle.rule.specs.Job.{Job, in-date}
 use Rattle.rule.specs.Descent.{no-regret-after}
 use Rattle.rule.specs.Bake.{ticket-of}

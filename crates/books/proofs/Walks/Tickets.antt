@@ -1,15 +1,14 @@
 -- Jobs with rising tickets: a ticket names one job, and baking it takes just that job away.
-use mathlib.Core.Path.{_≡_, refl, sym, ap, _∙_, subst}
-use mathlib.Core.Bool.{Bool, true, false, not, cond, _&&_}
-use mathlib.Core.Logic.{_⊎_, inl, inr}
-use mathlib.Core.List.{List, [], _∷_, _++_, map, List·Memᴰ, List·Memᴰ·head, List·Memᴰ·tail, List·Memᴰ·cases-cons, List·Memᴰ·not-nil}
+use mathlib.Core.Path.{_≡_, refl, sym, ap, _∙_}
+use mathlib.Core.Bool.{Bool, true, false, not, cond}
+use mathlib.Core.List.{List, [], _∷_, _++_, map, List·Memᴰ, List·Memᴰ·head, List·Memᴰ·tail}
 use Prim.Native.Nat.{ℕ, _≤_, _<_}
 use native.Mathlib.Omega.{arith}
-use lib.Dec.{ltb, leb, eqb}
+use lib.Dec.{ltb, eqb}
 use borrow.Author.Tests.{ltb-true, lt-ltb, eqb-false, ne-eqb, not-true}
 use Rattle.lists.specs.Select.{select}
 use Rattle.lists.specs.Rise.{rise}
-use Rattle.lists.proofs.Tests.{test, and-left, and-right, and-intro}
+use Rattle.lists.proofs.Tests.{and-left, and-right, and-intro}
 use Rattle.lists.proofs.Members.{select-mem, mem-select}
 use Rattle.rule.specs.Job.{Job}
 use Rattle.books.specs.Rule.{without}

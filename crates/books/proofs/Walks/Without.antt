@@ -1,17 +1,16 @@
 -- What a baked ticket takes away: the job that has it, and no other.
 use mathlib.Core.Path.{_≡_, refl, sym, ap, _∙_, subst}
-use mathlib.Core.Bool.{Bool, true, false, not}
-use mathlib.Core.List.{List, [], _∷_, _++_, map, List·Memᴰ, List·Memᴰ·head, List·Memᴰ·tail}
-use Prim.Native.Nat.{ℕ, _≤_, _<_}
+use mathlib.Core.Bool.{not}
+use mathlib.Core.List.{List, _∷_, List·Memᴰ, List·Memᴰ·head, List·Memᴰ·tail}
+use Prim.Native.Nat.{ℕ}
 use native.Mathlib.Omega.{arith}
 use lib.Dec.{eqb}
-use borrow.Author.Tests.{eqb-true, eq-eqb, ne-eqb}
-use Rattle.lists.specs.Select.{select}
+use borrow.Author.Tests.{eq-eqb, ne-eqb}
 use Rattle.lists.proofs.Members.{select-yes, select-no, select-all}
 use Rattle.lists.proofs.Less.{Less, here, there}
 use Rattle.rule.specs.Job.{Job}
 use Rattle.books.specs.Rule.{without}
-use Rattle.books.proofs.Walks.Tickets.{Rising, rising-head, rising-tail, rising-above}
+use Rattle.books.proofs.Walks.Tickets.{Rising, rising-tail, rising-above}
 
 -- a ticket that no job has takes nothing away
 pub without-none : (t : ℕ) (L : List Job) → ((x : Job) → List·Memᴰ x L → x .ticket ≡ t → ⊥) → without t L ≡ L

@@ -1,22 +1,20 @@
 -- What admitting within the limits answers, by the number of the first row that fails.
 use mathlib.Core.Path.{_≡_, refl, sym, ap, _∙_}
-use mathlib.Core.Bool.{true, false, not}
-use mathlib.Core.List.{[]}
+use mathlib.Core.Bool.{true, false}
 use Prim.Native.Nat.{ℕ, zero, suc, _≤_, _<_}
 use native.Mathlib.Omega.{arith}
-use lib.Dec.{leb}
 use lib.Pow.{pow-mono}
 use borrow.Author.Tests.{le-leb, lt-leb}
 use Rattle.board.specs.declared.Board.{Board}
 use Rattle.board.specs.declared.Admitted.{Admitted}
-use Rattle.board.specs.Limits.{places-held, deepest}
+use Rattle.board.specs.Limits.{places-held}
 use Rattle.board.specs.Rows.{_if_, first-given, admit-rows}
-use Rattle.board.specs.Held.{slot-number}
+use Rattle.board.specs.Held.{slot-of, slot-number}
 use Rattle.board.specs.Admit.{admitted-if}
 use Rattle.board.proofs.Calls.Rows.{admits}
 use Rattle.soundness.specs.Walk.{in-limits}
-use Rattle.calls.specs.InLimits.{_or-else_, limits-number, in-slot-before, admit-number-in-limits, admitted-in-limits, LetIn}
-use Rattle.calls.proofs.Limits.{Within, within, limits-passed}
+use Rattle.calls.specs.InLimits.{_or-else_, limits-number, in-slot-before, admit-number-in-limits, LetIn}
+use Rattle.calls.proofs.Limits.{within, limits-passed}
 
 -- a number that is not 0 stands
 pub first-stands : (n m : ℕ) → (n ≡ 0 → ⊥) → (n or-else m) ≡ n
@@ -36,13 +34,13 @@ answer-refused b t w g x (suc n) k h = h
 module _ (b : Board) (t w g : ℕ) where
   -- rows 3 to 7, as the code finds them
   abbrev rows : ℕ → ℕ
-  rows n = first-given (admit-rows (b .slot .0) (b .highest) n (b .depth) t w g)
+  rows n = first-given (admit-rows (slot-of b) (b .highest) n (b .depth) t w g)
 
-  pub number-out : in-limits (b .depth) (b .slot .0) (b .count) ≡ false → admit-number-in-limits b t w g ≡ 2
+  pub number-out : in-limits (b .depth) (slot-of b) (b .count) ≡ false → admit-number-in-limits b t w g ≡ 2
   unfolding admit-number-in-limits limits-number first-given _if_ _or-else_
   number-out e = simp e
 
-  module _ (i : in-limits (b .depth) (b .slot .0) (b .count) ≡ true) (n row : ℕ) (k : n ≡ in-slot-before b (b .count)) (r : row ≡ rows n) where
+  module _ (i : in-limits (b .depth) (slot-of b) (b .count) ≡ true) (n row : ℕ) (k : n ≡ in-slot-before b (b .count)) (r : row ≡ rows n) where
     same : rows (in-slot-before b (b .count)) ≡ row
     same = ap rows (sym k) ∙ sym r
 
@@ -61,7 +59,7 @@ module _ (b : Board) (t w g : ℕ) where
 
     pub let-in : row ≡ 0 → b .count < places-held → LetIn b w g
     let-in e f =
-        let a = admits (b .slot .0) (b .highest) n (b .depth) t w g (sym r ∙ e) in
+        let a = admits (slot-of b) (b .highest) n (b .depth) t w g (sym r ∙ e) in
         let l = within b i in
         record {
           in-book = l .in-book;

@@ -15,7 +15,7 @@ use Rattle.lists.proofs.Tests.{test, and-left, and-right, cond-true, cond-false
 use Rattle.lists.proofs.Counting.{one-if-yes, one-if-no, count-append}
 use Rattle.rule.specs.Job.{Job}
 use Rattle.board.specs.declared.Board.{Board}
-use Rattle.board.specs.Held.{blank, job-in, used, held, in-slot}
+use Rattle.board.specs.Held.{slot-of, blank, job-in, used, held, in-slot}
 use Rattle.board.specs.Sound.{sound}
 use Rattle.board.proofs.Soundness.Facts.{admitted-in}
 use Rattle.board.proofs.Soundness.Apart.{facts}
@@ -29,13 +29,13 @@ before-none b = refl
 -- one place more, of the slot or of another
 module _ (b : Board) (n : ℕ) where
   abbrev same : Bool
-  same = eqb (getD (b .places) n blank .admitted .0) (b .slot .0)
+  same = eqb (getD (b .places) n blank .admitted .0) (slot-of b)
 
-  pub before-more : getD (b .places) n blank .admitted .0 ≡ b .slot .0 → in-slot-before b (suc n) ≡ suc (in-slot-before b n)
+  pub before-more : getD (b .places) n blank .admitted .0 ≡ slot-of b → in-slot-before b (suc n) ≡ suc (in-slot-before b n)
   unfolding in-slot-before
   before-more e = cond-true same _ _ (eq-eqb _ _ e)
 
-  pub before-no-more : (getD (b .places) n blank .admitted .0 ≡ b .slot .0 → ⊥) → in-slot-before b (suc n) ≡ 0
+  pub before-no-more : (getD (b .places) n blank .admitted .0 ≡ slot-of b → ⊥) → in-slot-before b (suc n) ≡ 0
   unfolding in-slot-before
   before-no-more e = cond-false same _ _ (ne-eqb _ _ e)
 
@@ -58,7 +58,7 @@ before m (suc k) now d (a ∷ A) h i j =
 
 -- the jobs of the board's slot in its first n places
 abbrev in-first : Board → ℕ → ℕ
-in-first b n = admitted-in (b .slot .0) (take n (held b))
+in-first b n = admitted-in (slot-of b) (take n (held b))
 
 in-none : (b : Board) → in-first b 0 ≡ 0
 unfolding how-many
@@ -74,31 +74,31 @@ module _ (b : Board) (s : sound b ≡ true) where
 
   in-all : in-first b (b .count) ≡ in-slot b
   unfolding in-slot
-  in-all = ap (admitted-in (b .slot .0)) (take-all (b .count) (held b) (omega (arith, jobs)))
+  in-all = ap (admitted-in (slot-of b)) (take-all (b .count) (held b) (omega (arith, jobs)))
 
   -- one place more, with a job of the slot
-  in-more : (k : ℕ) → k < b .count → getD (b .places) k blank .admitted .0 ≡ b .slot .0 → in-first b (suc k) ≡ suc (in-first b k)
+  in-more : (k : ℕ) → k < b .count → getD (b .places) k blank .admitted .0 ≡ slot-of b → in-first b (suc k) ≡ suc (in-first b k)
   unfolding how-many job-in
   in-more k h e =
       let r = getD (held b) k (job-in blank) in
-      let now : r .admitted ≡ b .slot .0 = ap (λ (q : Job). q .admitted) (job-at k h) ∙ e in
+      let now : r .admitted ≡ slot-of b = ap (λ (q : Job). q .admitted) (job-at k h) ∙ e in
       omega (
         arith,
-        ap (admitted-in (b .slot .0)) (take-suc (held b) k (job-in blank) (omega (arith, jobs))),
-        count-append (λ (q : Job). eqb (q .admitted) (b .slot .0)) (take k (held b)) (r ∷ []),
-        one-if-yes (eqb (r .admitted) (b .slot .0)) (eq-eqb (r .admitted) (b .slot .0) now),
+        ap (admitted-in (slot-of b)) (take-suc (held b) k (job-in blank) (omega (arith, jobs))),
+        count-append (λ (q : Job). eqb (q .admitted) (slot-of b)) (take k (held b)) (r ∷ []),
+        one-if-yes (eqb (r .admitted) (slot-of b)) (eq-eqb (r .admitted) (slot-of b) now),
       )
 
   -- a job of another slot, and none of the slot before it
-  in-no-more : (k : ℕ) → k < b .count → (getD (b .places) k blank .admitted .0 ≡ b .slot .0 → ⊥) → in-first b (suc k) ≡ 0
+  in-no-more : (k : ℕ) → k < b .count → (getD (b .places) k blank .admitted .0 ≡ slot-of b → ⊥) → in-first b (suc k) ≡ 0
   unfolding job-in
   in-no-more k h e =
       let f = facts b s in
       let r = getD (held b) k (job-in blank) in
       let then : r .admitted ≡ getD (b .places) k blank .admitted .0 = ap (λ (q : Job). q .admitted) (job-at k h) in
       let inside : k < length (held b) = omega (arith, jobs) in
-      let begun : r .admitted ≤ b .slot .0 = f .each r (member-at k (job-in blank) (held b) inside) .begun in
-      before 1 k (b .slot .0) (job-in blank) (held b) (f .slots-in-order) inside (omega arith) .1
+      let begun : r .admitted ≤ slot-of b = f .each r (member-at k (job-in blank) (held b) inside) .begun in
+      before 1 k (slot-of b) (job-in blank) (held b) (f .slots-in-order) inside (omega arith) .1
 
   -- so the count from the end is the count
   before-is : (n : ℕ) → n ≤ b .count → in-slot-before b n ≡ in-first b n

@@ -9,13 +9,13 @@ use Rattle.rule.specs.Bake.{stays}
 use Rattle.board.specs.declared.Place.{Place}
 use Rattle.board.specs.declared.Board.{Board}
 use Rattle.board.specs.Limits.{places-held}
-use Rattle.board.specs.Held.{slot-number, job-in, blank, used, passing, thinned}
+use Rattle.board.specs.Held.{slot-of, slot-number, job-in, blank, used, passing, thinned}
 use Rattle.board.specs.Close.{moved-on-with}
 use Rattle.calls.proofs.Closing.Filling.{passed, Counted, Filled, counted-none, filled-none, counted-same, filled-same, counted-more, filled-more}
 
 -- the job in a place stays where the ticket t is baked
 abbrev pub staying : Board → (t : ℕ) → Place → Bool
-staying b t x = stays (b .slot .0) t (job-in x)
+staying b t x = stays (slot-of b) t (job-in x)
 
 -- i places have been looked at, and n jobs moved
 pub record Moved (b : Board) (t i n : ℕ) (places : List Place) : Type 0 where
@@ -46,7 +46,7 @@ drop-replicate (suc k) (suc n) a = let e : n - k ≡ suc n - suc k = omega arith
 
 module _ (b : Board) (t i n : ℕ) (places : List Place) (e : i ≡ b .count) (w : Moved b t i n places) where
   abbrev kept : List Place
-  kept = passing b (stays (b .slot .0) t)
+  kept = passing b (stays (slot-of b) t)
 
   all : passed (staying b t) (b .places) i ≡ kept
   unfolding passed passing used
@@ -58,13 +58,13 @@ module _ (b : Board) (t i n : ℕ) (places : List Place) (e : i ≡ b .count) (w
       ∙ ap (λ xs. map (λ (x : Place). x) xs ++ drop (length xs) (replicate places-held blank)) all
       ∙ rw (map-id kept, drop-replicate (length kept) places-held blank)
 
-  pub moved-all : record { depth = b .depth; slot = slot-number (b .slot .0 + 1); highest = b .highest; count = n; places = places } ≡ moved-on-with b t
+  pub moved-all : record { depth = b .depth; slot = slot-number (slot-of b + 1); highest = b .highest; count = n; places = places } ≡ moved-on-with b t
   unfolding moved-on-with thinned
   moved-all =
       λ j.
       record {
         depth = b .depth;
-        slot = slot-number (b .slot .0 + 1);
+        slot = slot-number (slot-of b + 1);
         highest = b .highest;
         count = (w .counted .exact ∙ ap length all) j;
         places = filled j;

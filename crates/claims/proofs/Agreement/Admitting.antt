@@ -12,7 +12,7 @@ use Rattle.lists.proofs.Counting.{count-append}
 use Rattle.rule.specs.Job.{Job, job, in-date}
 use Rattle.books.specs.Book.{enter, Book, highest, jobs, extend}
 use Rattle.board.specs.declared.Board.{Board}
-use Rattle.board.specs.Held.{held, in-slot}
+use Rattle.board.specs.Held.{slot-of, held, in-slot}
 use Rattle.board.specs.Admit.{admit-number, with-job}
 use Rattle.board.proofs.Soundness.Facts.{admitted-in}
 use Rattle.board.proofs.Soundness.Apart.{facts}
@@ -24,8 +24,8 @@ use Rattle.books.proofs.Walks.Extended.{present-entered, highest-entered, jobs-
 use Rattle.claims.proofs.Agreement.Agree.{Agree}
 
 module _ (d s : ℕ) (b : Board) (B : Book) (left : List Job) (a : Agree d s b B left) (t w g : ℕ) (e : admit-number b t w g ≡ 0) where
-  rows : Admits (b .slot .0) (b .highest) (in-slot b) (b .depth) t w g
-  rows = admits (b .slot .0) (b .highest) (in-slot b) (b .depth) t w g (sym (admit-number-sound b t w g (a .is-sound)) ∙ e)
+  rows : Admits (slot-of b) (b .highest) (in-slot b) (b .depth) t w g
+  rows = admits (slot-of b) (b .highest) (in-slot b) (b .depth) t w g (sym (admit-number-sound b t w g (a .is-sound)) ∙ e)
 
   new-job : Job
   new-job = job t s w g

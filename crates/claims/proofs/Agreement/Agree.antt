@@ -7,7 +7,7 @@ use Rattle.lists.specs.Select.{select}
 use Rattle.rule.specs.Job.{Job, in-date}
 use Rattle.books.specs.Book.{Book, present, highest, jobs}
 use Rattle.board.specs.declared.Board.{Board}
-use Rattle.board.specs.Held.{held}
+use Rattle.board.specs.Held.{slot-of, held}
 use Rattle.board.specs.Sound.{sound}
 use Rattle.board.proofs.Soundness.Facts.{admitted-in}
 
@@ -15,7 +15,7 @@ use Rattle.board.proofs.Soundness.Facts.{admitted-in}
 pub record Agree (d s : ℕ) (b : Board) (B : Book) (left : List Job) : Type 0 where
   pub is-sound : sound b ≡ true
   pub depth : b .depth ≡ d
-  pub slot : b .slot .0 ≡ s
+  pub slot : slot-of b ≡ s
   pub book-slot : present B ≡ s
   pub same-highest : highest B ≡ b .highest
   pub same-intake : admitted-in s (jobs B) ≡ admitted-in s (held b)

@@ -12,7 +12,7 @@ use Rattle.rule.specs.Bake.{ticket-of}
 use Rattle.books.specs.Book.{Book, present, highest, jobs}
 use Rattle.board.specs.declared.Board.{Board}
 use Rattle.board.specs.Rows.{first-given, admit-rows, close-rows}
-use Rattle.board.specs.Held.{held, in-slot}
+use Rattle.board.specs.Held.{slot-of, held, in-slot}
 use Rattle.board.specs.Admit.{admit-number, with-job, admitted-if, admitted}
 use Rattle.board.specs.Close.{close-number, bakes, moved-on-with, closed-with, closed}
 use Rattle.board.proofs.Soundness.Facts.{admitted-in}
@@ -49,10 +49,10 @@ module _ (d s : ℕ) (b : Board) (B : Book) (left : List Job) (a : Agree d s b B
 
   same-admit : (t w g : ℕ) → first-given (admit-rows (present B) (highest B) (entered-now B) d t w g) ≡ admit-number b t w g
   same-admit t w g =
-      let e : present B ≡ b .slot .0 = a .book-slot ∙ sym (a .slot) in
+      let e : present B ≡ slot-of b = a .book-slot ∙ sym (a .slot) in
       ap (λ k. first-given (admit-rows k (highest B) (entered-now B) d t w g)) e
-      ∙ ap (λ h. first-given (admit-rows (b .slot .0) h (entered-now B) d t w g)) (a .same-highest)
-      ∙ ap₂ (λ n e. first-given (admit-rows (b .slot .0) (b .highest) n e t w g)) same-number (sym (a .depth))
+      ∙ ap (λ h. first-given (admit-rows (slot-of b) h (entered-now B) d t w g)) (a .same-highest)
+      ∙ ap₂ (λ n e. first-given (admit-rows (slot-of b) (b .highest) n e t w g)) same-number (sym (a .depth))
       ∙ sym (admit-number-sound b t w g (a .is-sound))
 
   same-close : (lent : ℕ) → first-given (close-rows (present B) lent) ≡ close-number b lent

@@ -17,7 +17,7 @@ use Rattle.books.specs.Book.{Beginning, Change, end-slot, Book, jobs, extend}
 use Rattle.books.specs.Rule.{valid, without}
 use Rattle.books.specs.NoRegretRule.{our-choice}
 use Rattle.board.specs.declared.Board.{Board}
-use Rattle.board.specs.Held.{held, thinned}
+use Rattle.board.specs.Held.{slot-of, held, thinned}
 use Rattle.board.specs.Close.{close-number, bakes, moved-on-with}
 use Rattle.board.proofs.Soundness.Facts.{admitted-in}
 use Rattle.board.proofs.Soundness.Apart.{facts}
@@ -72,7 +72,7 @@ module _ (d s : ℕ) (b : Board) (B : Book) (left : List Job) (a : Agree d s b B
     where
       go : (o : Option Job) → bakes b ≡ o → valid s left (ticket-of o) ≡ ticket-of o
       go none e = valid-zero s left
-      go (some r) e = valid-named s left r (subst (List·Memᴰ r) (a .on-board) (baked-mem (b .slot .0) (b .depth) (held b) r e))
+      go (some r) e = valid-named s left r (subst (List·Memᴰ r) (a .on-board) (baked-mem (slot-of b) (b .depth) (held b) r e))
 
   new-held : held (moved-on-with b (ticket-of (bakes b))) ≡ select (in-date (suc s)) (without (ticket-of (bakes b)) left)
   unfolding without
@@ -90,7 +90,7 @@ module _ (d s : ℕ) (b : Board) (B : Book) (left : List Job) (a : Agree d s b B
 
   none-held : (r : Job) → List·Memᴰ r (held (moved-on-with b (ticket-of (bakes b)))) → r .admitted ≤ s
   none-held r m =
-      let old = facts b (a .is-sound) .each r (select-mem (stays (b .slot .0) (ticket-of (bakes b))) r (held b) (subst (List·Memᴰ r) (held-moved-on b (ticket-of (bakes b))) m) .0) in
+      let old = facts b (a .is-sound) .each r (select-mem (stays (slot-of b) (ticket-of (bakes b))) r (held b) (subst (List·Memᴰ r) (held-moved-on b (ticket-of (bakes b))) m) .0) in
       omega (arith, old .begun, a .slot)
 
   none-drawn : (r : Job) → List·Memᴰ r (jobs (extend B end-slot)) → r .admitted ≤ s

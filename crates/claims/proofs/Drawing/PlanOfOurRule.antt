@@ -10,6 +10,7 @@ use Rattle.books.specs.Rule.{choices, made-by}
 use Rattle.books.specs.NoRegretRule.{our-choice, our-rule}
 use Rattle.board.specs.declared.Board.{Board}
 use Rattle.board.specs.Sound.{sound}
+use Rattle.board.specs.Held.{slot-of}
 use Rattle.board.proofs.Soundness.HeldCount.{no-jobs}
 use Rattle.board.proofs.Soundness.Facts.{admitted-in}
 use Rattle.claims.specs.Calls.{Call}
@@ -23,7 +24,7 @@ use Rattle.claims.proofs.Drawing.NamedAsChosen.{named-as-chosen}
 
 -- the day book before the first call
 abbrev pub first-book : Board → Book
-first-book b = new-book (b .slot .0) (b .highest)
+first-book b = new-book (slot-of b) (b .highest)
 
 -- the day book has that beginning, and the changes that the calls add
 pub book-added : (b : Board) (cs : List Call) → book-of b cs ≡ record { beginning = first-book b .beginning; changes = added (b .depth) (first-book b) cs }
@@ -31,7 +32,7 @@ unfolding book-of day-book new-book
 book-added b cs = drawn-added (b .depth) (first-book b) cs
 
 module _ (b : Board) (s : sound b ≡ true) (empty : b .count ≡ 0) where
-  agree-first : Agree (b .depth) (b .slot .0) b (first-book b) []
+  agree-first : Agree (b .depth) (slot-of b) b (first-book b) []
   unfolding new-book present closed closings highest raised jobs entered select how-many
   agree-first =
       record {
@@ -40,7 +41,7 @@ module _ (b : Board) (s : sound b ≡ true) (empty : b .count ≡ 0) where
         slot = refl;
         book-slot = omega arith;
         same-highest = refl;
-        same-intake = ap (admitted-in (b .slot .0)) (sym (no-jobs b empty));
+        same-intake = ap (admitted-in (slot-of b)) (sym (no-jobs b empty));
         begun = λ r m. absurd (List·Memᴰ·not-nil m);
         on-board = no-jobs b empty;
       }
@@ -51,7 +52,7 @@ module _ (b : Board) (s : sound b ≡ true) (empty : b .count ≡ 0) where
       ≡ choices our-rule (b .depth) (book-of b cs .beginning) [] (book-of b cs .beginning .slot) (book-of b cs .beginning .jobs) (book-of b cs .changes)
   unfolding our-rule new-book
   named-by-our-rule cs =
-      named-as-chosen (b .depth) (b .slot .0) b (first-book b) [] agree-first cs
+      named-as-chosen (b .depth) (slot-of b) b (first-book b) [] agree-first cs
       ∙ sym (choices-of-choice our-choice (b .depth) (first-book b .beginning) (added (b .depth) (first-book b) cs))
       ∙ sym (ap (λ (B : Book). choices our-rule (b .depth) (B .beginning) [] (B .beginning .slot) (B .beginning .jobs) (B .changes)) (book-added b cs))
 

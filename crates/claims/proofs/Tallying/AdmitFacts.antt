@@ -11,7 +11,7 @@ use Rattle.lists.proofs.Counting.{one-if-yes, one-if-most, count-append}
 use Rattle.rule.specs.Job.{Job, job}
 use Rattle.board.specs.declared.Board.{Board}
 use Rattle.board.specs.Limits.{most-in-slot, last-slot}
-use Rattle.board.specs.Held.{held, in-slot}
+use Rattle.board.specs.Held.{slot-of, held, in-slot}
 use Rattle.board.specs.Sound.{sound}
 use Rattle.board.specs.Admit.{admit-number, with-job, admitted-if, admitted}
 use Rattle.board.specs.Events.{admitted-kind, baked-kind, given-up-kind, event, unless-refused, admit-events}
@@ -27,13 +27,13 @@ use Rattle.claims.specs.Balance.{on-board}
 use Rattle.claims.proofs.Tallying.RunFacts.{still, Leads, leads-nowhere}
 
 module _ (b : Board) (t w g : ℕ) (s : sound b ≡ true) (e : admit-number b t w g ≡ 0) where
-  rows : Admits (b .slot .0) (b .highest) (in-slot b) (b .depth) t w g
-  rows = admits (b .slot .0) (b .highest) (in-slot b) (b .depth) t w g (sym (admit-number-sound b t w g s) ∙ e)
+  rows : Admits (slot-of b) (b .highest) (in-slot b) (b .depth) t w g
+  rows = admits (slot-of b) (b .highest) (in-slot b) (b .depth) t w g (sym (admit-number-sound b t w g s) ∙ e)
 
   known : SoundFacts b
   known = facts b s
 
-  jobs : held (with-job b t w g) ≡ held b ++ (job t (b .slot .0) w g ∷ [])
+  jobs : held (with-job b t w g) ≡ held b ++ (job t (slot-of b) w g ∷ [])
   jobs = held-with-job b t w g (omega (arith, known .full, room b known (rows .room)))
 
   one-more : (n : ℕ) → on-board n (with-job b t w g) ≡ on-board n b + one-if (eqb g n)
@@ -42,7 +42,7 @@ module _ (b : Board) (t w g : ℕ) (s : sound b ≡ true) (e : admit-number b t 
       omega (
         arith,
         ap (how-many (λ (r : Job). eqb (r .grade) n)) jobs,
-        count-append (λ (r : Job). eqb (r .grade) n) (held b) (job t (b .slot .0) w g ∷ []),
+        count-append (λ (r : Job). eqb (r .grade) n) (held b) (job t (slot-of b) w g ∷ []),
       )
 
   one-more-now : in-slot (with-job b t w g) ≡ in-slot b + 1
@@ -50,9 +50,9 @@ module _ (b : Board) (t w g : ℕ) (s : sound b ≡ true) (e : admit-number b t 
   one-more-now =
       omega (
         arith,
-        ap (admitted-in (b .slot .0)) jobs,
-        one-if-yes (eqb (b .slot .0) (b .slot .0)) (eq-eqb (b .slot .0) (b .slot .0) refl),
-        count-append (λ (r : Job). eqb (r .admitted) (b .slot .0)) (held b) (job t (b .slot .0) w g ∷ []),
+        ap (admitted-in (slot-of b)) jobs,
+        one-if-yes (eqb (slot-of b) (slot-of b)) (eq-eqb (slot-of b) (slot-of b) refl),
+        count-append (λ (r : Job). eqb (r .admitted) (slot-of b)) (held b) (job t (slot-of b) w g ∷ []),
       )
 
   less : 1 + still (with-job b t w g) ≤ still b

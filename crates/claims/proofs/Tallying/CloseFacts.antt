@@ -16,7 +16,7 @@ use Rattle.rule.specs.Job.{Job}
 use Rattle.rule.specs.Bake.{expires, ticket-of, grade-of}
 use Rattle.board.specs.declared.Board.{Board}
 use Rattle.board.specs.Limits.{most-in-slot, last-slot}
-use Rattle.board.specs.Held.{held, in-slot, thinned}
+use Rattle.board.specs.Held.{slot-of, held, in-slot, thinned}
 use Rattle.board.specs.Sound.{sound}
 use Rattle.board.specs.Close.{close-number, given-up-with, bakes, given-up, moved-on-with, closed-with, closed}
 use Rattle.board.specs.Tally.{tally-grades}
@@ -87,10 +87,10 @@ module _ (b : Board) (s : sound b ≡ true) where
   none-admitted : (g : ℕ) → times admitted-kind g events ≡ 0
   none-admitted g = omega (arith, both admitted-kind g, baked-times g (bakes b) refl .0, gone-times g .0)
 
-  less : (b .slot .0 ≡ suc last-slot → ⊥) → still (moved-on-with b (ticket-of (bakes b))) ≤ still b
+  less : (slot-of b ≡ suc last-slot → ⊥) → still (moved-on-with b (ticket-of (bakes b))) ≤ still b
   unfolding still moved-on-with thinned last-slot most-in-slot in-slot
   less going =
-      omega (arith, known .to-last, sharing (λ (r : Job). r .admitted) (held b) most-in-slot (known .intake) (b .slot .0))
+      omega (arith, known .to-last, sharing (λ (r : Job). r .admitted) (held b) most-in-slot (known .intake) (slot-of b))
 
   cells : (e : Event) → List·Memᴰ e events → Cell (e .kind) (e .grade)
   unfolding job-events given-up-events given-up given-up-with
@@ -104,7 +104,7 @@ module _ (b : Board) (s : sound b ≡ true) where
       go (inl i) = from (bakes b) refl i
       go (inr i) =
           let r = Memᴰ·of-map _ (given-up b) i in
-          same-cell (sym (r .2)) (given-up-cell (fits (r .0) (select-mem (expires (b .slot .0) (ticket-of (bakes b))) (r .0) (held b) (r .1) .0)))
+          same-cell (sym (r .2)) (given-up-cell (fits (r .0) (select-mem (expires (slot-of b) (ticket-of (bakes b))) (r .0) (held b) (r .1) .0)))
 
   taken : (lent : ℕ) → close-number b lent ≡ 0 → Leads b events (moved-on-with b (ticket-of (bakes b)))
   taken lent e =

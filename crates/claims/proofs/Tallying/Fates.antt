@@ -15,7 +15,7 @@ use Rattle.lists.proofs.Counting.{count-none, count-split, count-in-selection}
 use Rattle.rule.specs.Job.{Job}
 use Rattle.rule.specs.Bake.{expires, stays, ticket-of}
 use Rattle.board.specs.declared.Board.{Board}
-use Rattle.board.specs.Held.{held}
+use Rattle.board.specs.Held.{slot-of, held}
 use Rattle.board.specs.Close.{given-up-with, bakes, given-up, moved-on-with}
 use Rattle.lists.proofs.Once.{count-once}
 use Rattle.board.proofs.Soundness.Facts.{SoundFacts}
@@ -43,7 +43,7 @@ now-or-later s n c g h = go (cmp n s)
 module _ (b : Board) (known : SoundFacts b) where
   pub baked-held : (q : Job) → bakes b ≡ some q → List·Memᴰ q (held b)
   unfolding bakes
-  baked-held q e = baked-mem (b .slot .0) (b .depth) (held b) q e
+  baked-held q e = baked-mem (slot-of b) (b .depth) (held b) q e
 
   pub ticket-above : (q : Job) → List·Memᴰ q (held b) → 0 < q .ticket
   ticket-above q m = rise-above 0 (known .tickets-rise) (Memᴰ·map (λ (r : Job). r .ticket) m)
@@ -66,13 +66,13 @@ module _ (b : Board) (known : SoundFacts b) where
         ∙ count-once (λ (r : Job). r .ticket) of-grade 0 (known .tickets-rise) (baked-held q e)
 
     -- those given up, and those that stay
-    given-up-count : how-many of-grade (given-up b) ≡ how-many (λ (r : Job). expires (b .slot .0) (ticket-of (bakes b)) r && of-grade r) (held b)
+    given-up-count : how-many of-grade (given-up b) ≡ how-many (λ (r : Job). expires (slot-of b) (ticket-of (bakes b)) r && of-grade r) (held b)
     unfolding given-up given-up-with
-    given-up-count = count-in-selection of-grade (expires (b .slot .0) (ticket-of (bakes b))) (held b)
+    given-up-count = count-in-selection of-grade (expires (slot-of b) (ticket-of (bakes b))) (held b)
 
-    staying-count : on-board g (moved-on-with b (ticket-of (bakes b))) ≡ how-many (λ (r : Job). stays (b .slot .0) (ticket-of (bakes b)) r && of-grade r) (held b)
+    staying-count : on-board g (moved-on-with b (ticket-of (bakes b))) ≡ how-many (λ (r : Job). stays (slot-of b) (ticket-of (bakes b)) r && of-grade r) (held b)
     unfolding on-board of-grade
-    staying-count = ap (how-many of-grade) (held-moved-on b (ticket-of (bakes b))) ∙ count-in-selection of-grade (stays (b .slot .0) (ticket-of (bakes b))) (held b)
+    staying-count = ap (how-many of-grade) (held-moved-on b (ticket-of (bakes b))) ∙ count-in-selection of-grade (stays (slot-of b) (ticket-of (bakes b))) (held b)
 
     pub fates : on-board g b
         ≡ how-many (λ (r : Job). eqb (r .ticket) (ticket-of (bakes b)) && eqb (r .grade) g) (held b) + how-many (λ (r : Job). eqb (r .grade) g) (given-up b) + on-board g (moved-on-with b (ticket-of (bakes b)))
@@ -84,7 +84,7 @@ module _ (b : Board) (known : SoundFacts b) where
           staying-count,
           count-split (λ (r : Job). eqb (r .ticket) (ticket-of (bakes b)) && of-grade r) (λ (r : Job). not (eqb (r .ticket) (ticket-of (bakes b))) && of-grade r) of-grade (held b)
               (λ r m. baked-or-not (eqb (r .ticket) (ticket-of (bakes b))) (of-grade r)),
-          count-split (λ (r : Job). expires (b .slot .0) (ticket-of (bakes b)) r && of-grade r) (λ (r : Job). stays (b .slot .0) (ticket-of (bakes b)) r && of-grade r)
+          count-split (λ (r : Job). expires (slot-of b) (ticket-of (bakes b)) r && of-grade r) (λ (r : Job). stays (slot-of b) (ticket-of (bakes b)) r && of-grade r)
               (λ (r : Job). not (eqb (r .ticket) (ticket-of (bakes b))) && of-grade r) (held b)
-              (λ r m. now-or-later (b .slot .0) (r .last) (not (eqb (r .ticket) (ticket-of (bakes b)))) (of-grade r) (known .each r m .in-date)),
+              (λ r m. now-or-later (slot-of b) (r .last) (not (eqb (r .ticket) (ticket-of (bakes b)))) (of-grade r) (known .each r m .in-date)),
         )

@@ -10,7 +10,7 @@ use Rattle.lists.specs.Select.{how-many}
 use Rattle.lists.proofs.Counting.{count-append}
 use Rattle.board.specs.declared.Board.{Board}
 use Rattle.board.specs.Limits.{most-in-slot, last-slot}
-use Rattle.board.specs.Held.{in-slot}
+use Rattle.board.specs.Held.{slot-of, in-slot}
 use Rattle.board.specs.Sound.{sound}
 use Rattle.board.specs.Events.{admitted-kind, baked-kind, given-up-kind, Event}
 use Rattle.board.proofs.Tallies.CountAt.{Cell}
@@ -19,7 +19,7 @@ use Rattle.claims.specs.Balance.{on-board}
 
 -- how many jobs can still be admitted to a board: the most in a slot for each slot up to the last, less those of its slot
 unfoldable pub still : Board → ℕ
-still b = most-in-slot * (suc last-slot - b .slot .0) - in-slot b
+still b = most-in-slot * (suc last-slot - slot-of b) - in-slot b
 
 -- the events es lead from the board b to the board c
 pub record Leads (b : Board) (es : List Event) (c : Board) : Type 0 where

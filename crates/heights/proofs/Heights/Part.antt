@@ -1,7 +1,7 @@
 -- A part of a board, seen by its counts: `at s` is how many of its jobs have last slot at least s. Slots are absolute numbers.
 -- Two parts may agree from a slot on, and a job may leave a part.
 use mathlib.Core.Path.{_≡_, refl, sym}
-use mathlib.Core.Logic.{_⊎_, inl, inr, ⊎-elim}
+use mathlib.Core.Logic.{⊎-elim}
 use Prim.Native.Nat.{ℕ, suc, _+_, _≤_, _<_}
 use native.Mathlib.Omega.{arith}
 pub use Rattle.lists.proofs.Tests.{cmp}

@@ -11,7 +11,7 @@ use Rattle.lists.proofs.Tests.{never, and-left, and-right, or-cases}
 use Rattle.board.specs.declared.Board.{Board}
 use Rattle.board.specs.Limits.{places-held, deepest}
 use Rattle.board.specs.Rows.{Row, _if_, first-given, admit-rows, close-rows}
-use Rattle.board.specs.Held.{in-slot}
+use Rattle.board.specs.Held.{slot-of, in-slot}
 use Rattle.board.specs.Sound.{sound}
 use Rattle.board.specs.Open.{opened-if, opened}
 use Rattle.board.specs.Admit.{admit-number, admitted-if, admitted}
@@ -74,11 +74,11 @@ pub may-admit : (b : Board) (t w g : ℕ) → sound b ≡ true → may-meet (adm
 unfolding every _if_ admit-rows
 may-admit b t w g s =
     ap may-meet (admitted-number b t w g ∙ admit-number-sound b t w g s)
-    ∙ may-first (admit-rows (b .slot .0) (b .highest) (in-slot b) (b .depth) t w g) refl
+    ∙ may-first (admit-rows (slot-of b) (b .highest) (in-slot b) (b .depth) t w g) refl
 
 -- every place of the board is lent
 pub may-close : (b : Board) → sound b ≡ true → may-meet (closed b places-held .refusal) ≡ true
 unfolding every _if_ close-rows places-held
 may-close b s =
     ap may-meet (closed-number b places-held ∙ close-number-sound b places-held s)
-    ∙ may-first (close-rows (b .slot .0) places-held) refl
+    ∙ may-first (close-rows (slot-of b) places-held) refl

@@ -15,6 +15,7 @@ use Rattle.board.specs.Limits.{places-held}
 use Rattle.board.specs.Sound.{sound}
 use Rattle.board.specs.Close.{closed, given-up}
 use Rattle.board.specs.Events.{given-up-kind, event, baked-events, given-up-events, closing-events, close-events, fed}
+use Rattle.board.specs.Held.{slot-of}
 use Rattle.board.proofs.Calls.SoundAfter.{closed-sound}
 use Rattle.board.proofs.Tallies.Fed.{let-through, fed-append}
 use Rattle.lines.specs.Bytes.{Bytes, letter-B}
@@ -28,7 +29,7 @@ use Rattle.program.proofs.Answering.Answers.{said, open-session, given-
 use Rattle.program.proofs.Answering.Entries.{few-given-up, printed-jobs}
 
 abbrev first-line : Board → Closed → Bytes
-first-line b c = printed letter-B (b .slot .0 ∷ c .ticket ∷ c .grade ∷ c .expired ∷ [])
+first-line b c = printed letter-B (slot-of b ∷ c .ticket ∷ c .grade ∷ c .expired ∷ [])
 
 module _ (day : Day) (i : ℕ) (c : Closed) (e : c ≡ closed (day .board) places-held) where
   pub close-refused : (c .refusal ≡ 0 → ⊥) → answer-close (session-of day) (day .board) i ≡ refused (session-of day) i (c .refusal)
@@ -38,7 +39,7 @@ module _ (day : Day) (i : ℕ) (c : Closed) (e : c ≡ closed (day .board) place
   close-answer : c .refusal ≡ 0
       → answer-close (session-of day) (day .board) i
       ≡ record {
-        output = first-line (day .board) c ++ printed-gone (day .board .slot .0) (given-up (day .board));
+        output = first-line (day .board) c ++ printed-gone (slot-of (day .board)) (given-up (day .board));
         session = open-session (c .board) (fed (day .tally) (close-events (day .board) places-held));
       }
   unfolding answer-close session-of
@@ -59,12 +60,12 @@ module _ (day : Day) (i : ℕ) (c : Closed) (e : c ≡ closed (day .board) place
       → sound (day .board) ≡ true → c .refusal ≡ 0 → at ≤ length out
       → T ≡ map (λ (r : Job). r .ticket) (given-up (day .board)) → G ≡ map (λ (r : Job). r .grade) (given-up (day .board))
       → PutWithin room (first-line (day .board) c) out at mid out₁
-      → PutWithin (length T * room) (printed-each (day .board .slot .0) T G) out₁ mid end out'
+      → PutWithin (length T * room) (printed-each (slot-of (day .board)) T G) out₁ mid end out'
       → y ≡ fed (fed (day .tally) (baked-events (c .ticket) (c .grade))) (map (event given-up-kind) G)
       → Given (answer-close (session-of day) (day .board) i) out at (said (c .board) y end) out'
   unfolding session-of GoodDay line-room
   close-given {out} {at} {mid} {end} {out₁} {out'} T G y s h start p q l m z =
-      let k = day .board .slot .0 in
+      let k = slot-of (day .board) in
       let A = given-up (day .board) in
       let gone : printed-each k T G ≡ printed-gone k A = rw (p, q) (printed-jobs k A) in
       given-as (close-answer h)

@@ -14,7 +14,7 @@ use Rattle.board.specs.declared.Board.{Board}
 use Rattle.board.specs.declared.Closed.{Closed}
 use Rattle.board.specs.declared.Tally.{Tally}
 use Rattle.board.specs.Limits.{places-held}
-use Rattle.board.specs.Held.{held}
+use Rattle.board.specs.Held.{slot-of, held}
 use Rattle.board.specs.Sound.{sound}
 use Rattle.board.specs.Close.{given-up-with, bakes, given-up, close-number, closed-with, closed}
 use Rattle.board.specs.Lent.{Lent}
@@ -59,7 +59,7 @@ pub few-given-up : (b : Board) → sound b ≡ true → length (given-up b) ≤ 
 unfolding given-up given-up-with
 few-given-up b s =
     let f = facts b s in
-    let p = expires (b .slot .0) (ticket-of (bakes b)) in
+    let p = expires (slot-of b) (ticket-of (bakes b)) in
     omega (arith, count-select p (held b), count-length p (held b), held-count b (omega (arith, f .full, f .counted)), f .counted)
 
 -- an answer that is no refusal says how many

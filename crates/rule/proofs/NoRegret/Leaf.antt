@@ -1,7 +1,6 @@
 -- A tight job of the list is one that leaves the tree as a tight leaf, and the other way round.
-use mathlib.Core.Path.{_≡_}
 use mathlib.Core.List.{List, List·Memᴰ}
-use Prim.Native.Nat.{ℕ, _≤_, _<_}
+use Prim.Native.Nat.{ℕ}
 use native.Mathlib.Omega.{arith}
 use Rattle.heights.proofs.Heights.Part.{out-unique}
 use Rattle.heights.proofs.Heights.TightSlot.{tight-unique}

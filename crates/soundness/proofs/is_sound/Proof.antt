@@ -4,6 +4,7 @@ use mathlib.Core.Bool.{true, false, _&&_}
 use borrow.Author.Needs.{needs}
 use borrow.Author.Tests.{not-true, not-false}
 use Rattle.board.specs.Limits.{places-held}
+use Rattle.board.specs.Held.{slot-of}
 use Rattle.soundness.specs.Walk.{in-limits}
 use Rattle.board.proofs.Known.{all-places}
 use Rattle.soundness.proofs.Parts.{sound-is, within}
@@ -19,14 +20,14 @@ returns c =
     let l = c .before in
     let a = l .before .before in
     let b = a .args .b in
-    let out : in-limits (b .depth) (b .slot .0) (b .count) ≡ false = sym (l .in-limits .ensures) ∙ not-true (l .in-limits .result) (c .if1 .taken) in
+    let out : in-limits (b .depth) (slot-of b) (b .count) ≡ false = sym (l .in-limits .ensures) ∙ not-true (l .in-limits .result) (c .if1 .taken) in
     rw out at (sound-is b (all-places b _ (a .good .0)))
 
-in-its-limits : (c : tie.Else1) → let b = c .before .before .before .args .b in in-limits (b .depth) (b .slot .0) (b .count) ≡ true
+in-its-limits : (c : tie.Else1) → let b = c .before .before .before .args .b in in-limits (b .depth) (slot-of b) (b .count) ≡ true
 in-its-limits c = sym (c .before .in-limits .ensures) ∙ not-false (c .before .in-limits .result) (c .if1 .left)
 
 jobs-sound-requires : tie.Need-jobs-sound-requires
-jobs-sound-requires c κs = let b = c .before .before .before .args .b in within (b .depth) (b .slot .0) (b .count) (in-its-limits c)
+jobs-sound-requires c κs = let b = c .before .before .before .args .b in within (b .depth) (slot-of b) (b .count) (in-its-limits c)
 
 blank-past-requires : tie.Need-blank-past-requires
 blank-past-requires c κs = search needs

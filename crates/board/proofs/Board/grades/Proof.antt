@@ -1,6 +1,6 @@
 -- `board::Board::grades`: one shifted left by the depth is a power of two, which fits. Assumes nothing.
 use mathlib.Core.Path.{_≡_, ap, _∙_}
-use Prim.Native.Nat.{_^_, _<_, min}
+use Prim.Native.Nat.{_^_, min}
 use native.Mathlib.Nat.{one-mul}
 use native.Mathlib.Omega.{arith}
 use lib.Dec.{lit<}

@@ -1,19 +1,19 @@
 -- `calls::admit::admit_in_limits`: the answer goes by the first number that is given. Assumes nothing.
-use mathlib.Core.Path.{_≡_, sym, ap, _∙_}
+use mathlib.Core.Path.{_≡_, sym, _∙_}
 use mathlib.Core.Bool.{true}
-use Prim.Native.Nat.{_<_}
 use native.Mathlib.Omega.{arith}
 use borrow.Author.Needs.{needs}
 use borrow.Author.Tests.{not-true, not-false}
 use Rattle.board.specs.Limits.{places-held}
+use Rattle.board.specs.Held.{slot-of}
 use Rattle.soundness.specs.Walk.{in-limits}
 use Rattle.calls.specs.InLimits.{admitted-in-limits}
 use Rattle.calls.proofs.Limits.{within}
-use Rattle.calls.proofs.Admitting.ByNumber.{number-out, number-row, number-full, number-none, let-in, answer-none, answer-refused}
+use Rattle.calls.proofs.Admitting.ByNumber.{number-out, number-row, number-full, number-none, let-in, answer-refused}
 use Rattle.calls.proofs.admit.admit_in_limits.Statement.{statement}
 use Rattle.calls.proofs.admit.admit_in_limits.Tie as tie
 
-inside : (c : tie.Else1) → let b = c .before .before .args .b in in-limits (b .depth) (b .slot .0) (b .count) ≡ true
+inside : (c : tie.Else1) → let b = c .before .before .args .b in in-limits (b .depth) (slot-of b) (b .count) ≡ true
 inside c = sym (c .before .in-limits .ensures) ∙ not-false (c .before .in-limits .result) (c .if1 .left)
 
 in-limits-requires : tie.Need-in-limits-requires

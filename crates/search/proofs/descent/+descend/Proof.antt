@@ -4,7 +4,7 @@ use mathlib.Core.Path.{_≡_, sym, ap, _∙_}
 use native.Mathlib.Omega.{arith}
 use Rattle.rule.specs.Grade.{bits}
 use Rattle.rule.specs.Descent.{descend as descend-of}
-use Rattle.board.specs.Held.{held}
+use Rattle.board.specs.Held.{slot-of, held}
 use Rattle.search.specs.Inside.{first-bits}
 use Rattle.search.proofs.Start.{start-small}
 use Rattle.search.proofs.NextBit.{one-fewer, none-left}
@@ -37,7 +37,7 @@ descend-returns t c =
     let a = s .args in
     let b = a .b in
     let e : b .depth - a .left ≡ b .depth = omega arith in (
-      ap (λ n. bits n (a .start)) (sym e) ∙ sym (none-left (b .slot .0) (b .depth) (held b) (a .left) (first-bits (b .depth) (a .start) (a .left)) (c .if1 .taken)),
+      ap (λ n. bits n (a .start)) (sym e) ∙ sym (none-left (slot-of b) (b .depth) (held b) (a .left) (first-bits (b .depth) (a .start) (a .left)) (c .if1 .taken)),
       start-small (b .depth) (a .left) (a .start) (s .pre .1 .1),
     )
 
@@ -82,8 +82,8 @@ descend-returns-2 t c =
     let u = first-bits (b .depth) (a .start) (a .left) in
     let n = c .before .next-start .ensures .0 in (
       c .descend .ensures .0
-          ∙ ap (descend-of (b .slot .0) (b .depth) (held b) (a .left - 1)) n
-          ∙ sym (one-fewer (b .slot .0) (b .depth) (held b) (a .left) u (omega arith)),
+          ∙ ap (descend-of (slot-of b) (b .depth) (held b) (a .left - 1)) n
+          ∙ sym (one-fewer (slot-of b) (b .depth) (held b) (a .left) u (omega arith)),
       c .descend .ensures .1,
     )
 

@@ -3,7 +3,7 @@ use mathlib.Core.Path.{ap, _∙_}
 use native.Mathlib.Omega.{arith}
 use borrow.Author.Needs.{needs}
 use lib.Dec.{ltb}
-use Rattle.board.specs.Held.{held}
+use Rattle.board.specs.Held.{slot-of, held}
 use Rattle.search.specs.Inside.{first-bits}
 use Rattle.search.proofs.Start.{next-zero, zero-fits}
 use Rattle.search.proofs.Walk.{next-byte}
@@ -35,7 +35,7 @@ returns c =
     let a = s .args in
     let b = a .b in
     let next = next-zero (b .depth) (a .left) (a .start) (s .pre .1) (s .pre .2) in
-    ap (ltb 0) (c .count-within .ensures .0) ∙ simp (next, c .before .tight .ensures) (zero-next (b .slot .0) (b .depth) (held b) (first-bits (b .depth) (a .start) (a .left)))
+    ap (ltb 0) (c .count-within .ensures .0) ∙ simp (next, c .before .tight .ensures) (zero-next (slot-of b) (b .depth) (held b) (first-bits (b .depth) (a .start) (a .left)))
 
 pub has-zero-spec : {M : Type 1} → statement M
 has-zero-spec =

@@ -12,7 +12,7 @@ use Rattle.rule.specs.Job.{laxity}
 use Rattle.rule.specs.Tight.{excess}
 use Rattle.rule.proofs.NoRegret.Within.{mem-starting}
 use Rattle.board.specs.Limits.{longest-laxity, places-held}
-use Rattle.board.specs.Held.{job-in}
+use Rattle.board.specs.Held.{slot-of, job-in}
 use Rattle.search.specs.Inside.{first-bits, starting-so}
 use Rattle.search.proofs.Walk.{place-at, jobs-to, starts-in, starts-all, few-left, place-there, place-mem, place-in-date, place-seen, place-starts, one-more, none-more}
 use Rattle.search.proofs.BestLaxity.{BestOf, none-yet, best-more, best-all}
@@ -21,7 +21,7 @@ use Rattle.search.proofs.tight.tight.Tie as tie
 
 abbrev Inv-loop : tie.InvT-loop
 Inv-loop start left b count now best₀ i₀ best i =
-    (i ≤ b .count) × BestOf (b .slot .0) (starting-so b start left) (select (starts-in b start left) (jobs-to b i)) best
+    (i ≤ b .count) × BestOf (slot-of b) (starting-so b start left) (select (starts-in b start left) (jobs-to b i)) best
 
 abbrev μ-loop : tie.MeasureT-loop
 μ-loop start left b count now best₀ i₀ best i = b .count - i
@@ -93,13 +93,13 @@ loop-again c =
     let g = e ∙ w .0 .taken in
     let l = w .1 .result in
     let x = w .3 .result in
-    let is : laxity (b .slot .0) r ≡ l .0 = sym (w .1 .ensures) in
-    let of : x ≡ excess (b .slot .0) A (l .0) = w .3 .ensures ∙ ap (λ n. pos (l .0) -ℤ pos n) (w .2 .ensures .0) in
+    let is : laxity (slot-of b) r ≡ l .0 = sym (w .1 .ensures) in
+    let of : x ≡ excess (slot-of b) A (l .0) = w .3 .ensures ∙ ap (λ n. pos (l .0) -ℤ pos n) (w .2 .ensures .0) in
     let m = mem-starting (b .depth) (first-bits (b .depth) (a .start) (a .left)) (place-mem b (s .pre .0) i h) g in
     let few : l .0 ≤ longest-laxity = omega (arith, place-seen b (s .pre .0) i h .short) in (
       omega arith,
       rw (one-more b i there p g, w .5, w .4 .ensures, toZ-ofZ {w = w32} {z = x} (record { sfits = w .3 .ok }))
-          (best-more (b .slot .0) A r m l is x of few (k .loop .inv .1)),
+          (best-more (slot-of b) A r m l is x of few (k .loop .inv .1)),
     ))
     (λ w. (omega arith, rw (none-more b i there p (e ∙ w .0 .left), w .1) (k .loop .inv .1)))
     (c .if1 .came)
@@ -110,7 +110,7 @@ returns c =
     let b = a .t1 in
     let k = c .before .before in
     let A = starting-so b (a .start) (a .left) in
-    best-all (subst (λ L. BestOf (b .slot .0) A L (k .loop .best)) (starts-all b (a .start) (a .left) (k .loop .i) (omega arith)) (k .loop .inv .1))
+    best-all (subst (λ L. BestOf (slot-of b) A L (k .loop .best)) (starts-all b (a .start) (a .left) (k .loop .i) (omega arith)) (k .loop .inv .1))
 
 pub tight-spec : {M : Type 1} → statement M
 tight-spec =
