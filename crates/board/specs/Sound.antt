@@ -20,11 +20,11 @@ has-all-places b = eqb (length (b .places)) places-held
 abbrev pub depth-in-range : Board → Bool
 depth-in-range b = leb (b .depth) deepest
 
--- 'slot is 1 [..]'
+-- 'slot is 1 to 1,000,001': 1 or more
 abbrev pub slot-from-one : Board → Bool
 slot-from-one b = leb 1 (slot-of b)
 
--- 'slot is [..] to 1,000,001'
+-- 'slot is 1 to 1,000,001': 1,000,001 at the most
 abbrev pub slot-to-end : Board → Bool
 slot-to-end b = leb (slot-of b) (suc last-slot)
 
@@ -43,11 +43,11 @@ blank-past-count b = every is-blank (drop (b .count) (b .places))
 abbrev pub tickets-rise : Board → Bool
 tickets-rise b = rising (map (λ (r : Job). r .ticket) (held b))
 
--- '[tickets] start at 1 or more'
+-- 'tickets [..] start at 1 or more'
 abbrev pub tickets-from-one : Board → Bool
 tickets-from-one b = every (λ (r : Job). leb 1 (r .ticket)) (held b)
 
--- '[tickets] don't pass the highest'
+-- 'tickets [..] don't pass the highest'
 abbrev pub tickets-to-highest : Board → Bool
 tickets-to-highest b = every (λ (r : Job). leb (r .ticket) (b .highest)) (held b)
 
@@ -55,7 +55,7 @@ tickets-to-highest b = every (λ (r : Job). leb (r .ticket) (b .highest)) (held 
 abbrev pub admitted-from-one : Board → Bool
 admitted-from-one b = every (λ (r : Job). leb 1 (r .admitted)) (held b)
 
--- '[admitted slots] never fall along the board'
+-- 'admitted slots [..] never fall along the board'
 abbrev pub admitted-never-fall : Board → Bool
 admitted-never-fall b = never-falling (map (λ (r : Job). r .admitted) (held b))
 

@@ -32,23 +32,23 @@ never-fall-above m {x} h (List·Memᴰ·tail {x = n} {xs = l} k) =
     omega (arith, leb-true m n (and-left (leb m n) (never-fall n l) h), never-fall-above n (and-right (leb m n) (never-fall n l) h) k)
 
 -- order alone, and order above a first bound
-pub rise-rising : (m : ℕ) (l : List ℕ) → rise m l ≡ true → rising l ≡ true
+pub order-of-rise : (m : ℕ) (l : List ℕ) → rise m l ≡ true → rising l ≡ true
 unfolding rise rising
-rise-rising m [] h = refl
-rise-rising m (n ∷ l) h = and-right (ltb m n) (rise n l) h
+order-of-rise m [] h = refl
+order-of-rise m (n ∷ l) h = and-right (ltb m n) (rise n l) h
 
-pub never-fall-falling : (m : ℕ) (l : List ℕ) → never-fall m l ≡ true → never-falling l ≡ true
+pub order-of-never-fall : (m : ℕ) (l : List ℕ) → never-fall m l ≡ true → never-falling l ≡ true
 unfolding never-fall never-falling
-never-fall-falling m [] h = refl
-never-fall-falling m (n ∷ l) h = and-right (leb m n) (never-fall n l) h
+order-of-never-fall m [] h = refl
+order-of-never-fall m (n ∷ l) h = and-right (leb m n) (never-fall n l) h
 
 module _ {A : Type 0} (f : A → ℕ) where
-  pub rising-rise : (m : ℕ) (l : List A) → rising (map f l) ≡ true → ((a : A) → List·Memᴰ a l → m < f a) → rise m (map f l) ≡ true
+  pub rise-of-order : (m : ℕ) (l : List A) → rising (map f l) ≡ true → ((a : A) → List·Memᴰ a l → m < f a) → rise m (map f l) ≡ true
   unfolding rise rising
-  rising-rise m [] h b = refl
-  rising-rise m (a ∷ l) h b = and-intro (ltb m (f a)) (rise (f a) (map f l)) (lt-ltb m (f a) (b a (List·Memᴰ·head refl))) h
+  rise-of-order m [] h b = refl
+  rise-of-order m (a ∷ l) h b = and-intro (ltb m (f a)) (rise (f a) (map f l)) (lt-ltb m (f a) (b a (List·Memᴰ·head refl))) h
 
-  pub falling-never-fall : (m : ℕ) (l : List A) → never-falling (map f l) ≡ true → ((a : A) → List·Memᴰ a l → m ≤ f a) → never-fall m (map f l) ≡ true
+  pub never-fall-of-order : (m : ℕ) (l : List A) → never-falling (map f l) ≡ true → ((a : A) → List·Memᴰ a l → m ≤ f a) → never-fall m (map f l) ≡ true
   unfolding never-fall never-falling
-  falling-never-fall m [] h b = refl
-  falling-never-fall m (a ∷ l) h b = and-intro (leb m (f a)) (never-fall (f a) (map f l)) (le-leb m (f a) (b a (List·Memᴰ·head refl))) h
+  never-fall-of-order m [] h b = refl
+  never-fall-of-order m (a ∷ l) h b = and-intro (leb m (f a)) (never-fall (f a) (map f l)) (le-leb m (f a) (b a (List·Memᴰ·head refl))) h

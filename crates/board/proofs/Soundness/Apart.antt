@@ -7,7 +7,7 @@ use lib.ListN.{drop}
 use borrow.Author.Tests.{leb-true, eqb-true}
 use Rattle.lists.proofs.Members.{every-mem}
 use Rattle.lists.proofs.Joined.{apart}
-use Rattle.lists.proofs.Rising.{rising-rise, falling-never-fall}
+use Rattle.lists.proofs.Rising.{rise-of-order, never-fall-of-order}
 use Rattle.board.specs.declared.Place.{Place}
 use Rattle.board.specs.declared.Board.{Board}
 use Rattle.board.specs.Held.{slot-number, blank, held}
@@ -55,8 +55,8 @@ facts b h =
       to-last = leb-true _ _ last;
       counted = leb-true _ _ count;
       blank-past = blanks b past;
-      tickets-rise = rising-rise _ 0 (held b) tickets (λ r m. leb-true _ _ (every-mem _ from-one m));
-      slots-in-order = falling-never-fall _ 1 (held b) slots (λ r m. leb-true _ _ (every-mem _ slots-from-one m));
+      tickets-rise = rise-of-order _ 0 (held b) tickets (λ r m. leb-true _ _ (every-mem _ from-one m));
+      slots-in-order = never-fall-of-order _ 1 (held b) slots (λ r m. leb-true _ _ (every-mem _ slots-from-one m));
       each =
           λ r m.
           record {

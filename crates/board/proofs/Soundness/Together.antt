@@ -6,7 +6,7 @@ use borrow.Author.Tests.{le-leb, eq-eqb}
 use Rattle.lists.specs.Select.{every}
 use Rattle.lists.proofs.Members.{mem-every, le-every}
 use Rattle.lists.proofs.Joined.{together, _also_}
-use Rattle.lists.proofs.Rising.{rise-above, never-fall-above, rise-rising, never-fall-falling}
+use Rattle.lists.proofs.Rising.{rise-above, never-fall-above, order-of-rise, order-of-never-fall}
 use Rattle.rule.specs.Job.{Job}
 use Rattle.board.specs.declared.Board.{Board}
 use Rattle.board.specs.Held.{blank}
@@ -30,11 +30,11 @@ all-sound b f =
     also le-leb _ _ (f .to-last)
     also le-leb _ _ (f .counted)
     also blank-places b f
-    also rise-rising 0 _ (f .tickets-rise)
+    also order-of-rise 0 _ (f .tickets-rise)
     also le-every _ (λ r m. rise-above 0 (f .tickets-rise) (Memᴰ·map (λ (q : Job). q .ticket) m))
     also le-every _ (λ r m. f .each r m .known)
     also le-every _ (λ r m. never-fall-above 1 (f .slots-in-order) (Memᴰ·map (λ (q : Job). q .admitted) m))
-    also never-fall-falling 1 _ (f .slots-in-order)
+    also order-of-never-fall 1 _ (f .slots-in-order)
     also le-every _ (λ r m. f .each r m .begun)
     also le-every _ (λ r m. f .each r m .in-date)
     also le-every _ (λ r m. f .each r m .short)
