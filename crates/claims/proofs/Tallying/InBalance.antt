@@ -2,7 +2,7 @@
 use mathlib.Core.Path.{_≡_, ap}
 use mathlib.Core.Bool.{true}
 use mathlib.Core.List.{List, [], _∷_}
-use Prim.Native.Nat.{ℕ, _+_, _*_, _≤_, _<_}
+use Prim.Native.Nat.{ℕ, _*_, _≤_}
 use native.Mathlib.Omega.{arith}
 use lib.Dec.{eqb}
 use lib.ListN.{length-replicate}
@@ -29,36 +29,25 @@ at-most : (b : Board) → SoundFacts b → still b ≤ tally-most
 unfolding still tally-most
 at-most b f = omega (arith, f .from-first)
 
+none-yet : (b : Board) → b .count ≡ 0 → (g : ℕ) → on-board g b ≡ 0
+unfolding on-board how-many
+none-yet b empty g = ap (how-many (λ (r : Job). eqb (r .grade) g)) (no-jobs b empty)
+
 -- events that lead from an empty board to another
 module _ {b c : Board} {es : List Event} (s : sound b ≡ true) (empty : b .count ≡ 0) (run : Leads b es c) where
-  no-grade : (g : ℕ) → on-board g b ≡ 0
-  unfolding on-board how-many
-  no-grade g = ap (how-many (λ (r : Job). eqb (r .grade) g)) (no-jobs b empty)
-
   below : (k g : ℕ) → Cell k g → times k g es ≤ tally-most
   below k g =
       each-kind (λ n. times n g es ≤ tally-most)
       (omega (arith, run .intake g, at-most b (facts b s)))
-      (omega (arith, run .intake g, run .balance g, no-grade g, at-most b (facts b s)))
-      (omega (arith, run .intake g, run .balance g, no-grade g, at-most b (facts b s))) k g
+      (omega (arith, run .intake g, run .balance g, none-yet b empty g, at-most b (facts b s)))
+      (omega (arith, run .intake g, run .balance g, none-yet b empty g, at-most b (facts b s))) k g
 
   pub fed-run : FedFacts zero-tally es
   unfolding zero-tally
   fed-run = fed-facts zero-tally es (length-replicate {A = ℕ} (tally-kinds * tally-grades) 0) (run .cells) (λ k g h. omega (arith, below k g h, zero-count k g h))
 
-  in-balance : (g : ℕ) → g < tally-grades
-      → count-at (fed zero-tally es) admitted-kind g ≡ count-at (fed zero-tally es) baked-kind g + count-at (fed zero-tally es) given-up-kind g + on-board g c
-  in-balance g h =
-      let fed-at : (k : ℕ) → Cell k g → count-at (fed zero-tally es) k g ≡ times k g es =
-      λ k i. omega (arith, fed-run .counts k g i, zero-count k g i) in
-      omega (
-        arith,
-        run .balance g,
-        no-grade g,
-        fed-at admitted-kind (admitted-cell h),
-        fed-at baked-kind (baked-cell h),
-        fed-at given-up-kind (given-up-cell h),
-      )
+  fed-at : (k g : ℕ) → Cell k g → count-at (fed zero-tally es) k g ≡ times k g es
+  fed-at k g h = omega (arith, fed-run .counts k g h, zero-count k g h)
 
 call-leads : (b : Board) (c : Call) → sound b ≡ true → Leads b (events-of b c) (board-after b c)
 unfolding events-of board-after
@@ -76,4 +65,15 @@ pub balance : Balance
 unfolding Balance tally-after-all
 balance b s empty cs =
     let run = run-leads b cs s in
-    record { taken = fed-run s empty run .none-refused; balance = λ g h. in-balance s empty run g (omega arith) }
+    record {
+      taken = fed-run s empty run .none-refused;
+      balance = λ g h.
+          omega (
+            arith,
+            run .balance g,
+            none-yet b empty g,
+            fed-at s empty run admitted-kind g (admitted-cell h),
+            fed-at s empty run baked-kind g (baked-cell h),
+            fed-at s empty run given-up-kind g (given-up-cell h),
+          );
+    }
