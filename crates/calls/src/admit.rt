@@ -37,7 +37,7 @@ pub(crate) fn grades(depth: u8) -> u32
     1u32 << depth
 }
 
-// Whether a job may wait so long: 1 to 32 slots.
+// Whether a job may wait so long: 1 slot at least, and no more than the longest laxity.
 fn laxity_allowed(laxity: Laxity) -> bool
     ensures { λ r. ⌜ r ≡ (leb 1 (laxity .0) && leb (laxity .0) longest-laxity) ⌝ }
 {
