@@ -29,7 +29,7 @@ fn in_slot(b: Board) -> usize
     b.count
 }
 
-// Whether a job may wait so long: 1 to 32 slots.
+// Whether a job may wait so long: 1 slot at least, and no more than the longest laxity.
 fn laxity_allowed(laxity: Laxity) -> bool
     ensures { λ r. ⌜ r ≡ (leb 1 (laxity .0) && leb (laxity .0) longest-laxity) ⌝ }
 {

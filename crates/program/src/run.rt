@@ -102,7 +102,7 @@ fn too_long(read: u64, written: u64) -> Outcome
 // The end of input: writes what is left to print.
 fn finish(desk: Desk, out: &mut [u8], read: u64, written: u64) -> Outcome
     requires { ⌜ GoodDay (desk .day) ⌝ }
-    requires { ⌜ (desk .held .len ≤ most-held) × (length (now out) ≡ buffer-length) × (written < 2 ^ 63) ⌝ }
+    requires { ⌜ (desk .held .len ≤ most-held) × (length (now out) ≡ buffer-length) × (written + buffer-length < 2 ^ 64) ⌝ }
     ensures { λ r. ⌜ Stopped desk read written r ⌝ }
 {
     let end = feed::finish(desk, out, 0);
@@ -121,7 +121,7 @@ fn finish(desk: Desk, out: &mut [u8], read: u64, written: u64) -> Outcome
 // A read gave no bytes: it is the end of input, or it has failed, which is said, and then neither the line that has begun nor the tally is printed.
 fn stop(got: Got, desk: Desk, out: &mut [u8], read: u64, written: u64) -> Outcome
     requires { ⌜ GoodDay (desk .day) ⌝ }
-    requires { ⌜ (desk .held .len ≤ most-held) × (length (now out) ≡ buffer-length) × (written < 2 ^ 63) ⌝ }
+    requires { ⌜ (desk .held .len ≤ most-held) × (length (now out) ≡ buffer-length) × (written + buffer-length < 2 ^ 64) ⌝ }
     ensures { λ r. ⌜ Stopped desk read written r ⌝ }
 {
     let Got::End = got else {

@@ -114,7 +114,9 @@ fn admit_line(
 fn say_gone(slot: u32, tickets: &[u32], grades: &[u8], out: &mut [u8], at: usize) -> usize
     requires { ⌜ length (now grades) ≡ length (now tickets) ⌝ }
     requires { ⌜ at + length (now tickets) * room ≤ length (now out) ⌝ }
-    ensures { λ r. ⌜ PutWithin (length (now (tickets .entry)) * room) (printed-each slot (now (tickets .entry)) (now (grades .entry))) (now (out .entry)) at r (now (out .exit)) ⌝ }
+    ensures { λ r.
+        let lines = printed-each slot (now (tickets .entry)) (now (grades .entry)) in
+        ⌜ PutWithin (length (now (tickets .entry)) * room) lines (now (out .entry)) at r (now (out .exit)) ⌝ }
 {
     let mut end = at;
     let mut i: usize = 0;

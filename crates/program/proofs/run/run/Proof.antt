@@ -49,7 +49,7 @@ unfolding buffer-length
 slice-aggregate-stop c = sym (c .before .before .before .before .before .before .loop .inv .2)
 
 stop-requires : tie.Need-stop-requires Inv-loop μ-loop
-unfolding most-read line-room
+unfolding most-read line-room buffer-length
 stop-requires c κs =
     let v = c .before .before .before .before .before .before .loop .inv in
     let t = c .before .before .before .before .before .loop-test .taken in
