@@ -3,33 +3,42 @@ use mathlib.Core.Path.{_≡_, refl, sym, _∙_, subst}
 use mathlib.Core.Bool.{Bool, true, false}
 use mathlib.Core.List.{List, [], _∷_}
 use mathlib.Core.Logic.{_⊎_, inl, inr}
-use mathlib.Core.Option.{Option, none, some}
+use mathlib.Core.Option.{Option, none, some, Option·some-injective}
 use Prim.Native.Nat.{ℕ}
 use native.Mathlib.Omega.{arith}
 use borrow.Author.Tests.{not-false}
-use Rattle.lists.proofs.Tests.{test, never, cond-true, cond-false}
+use Rattle.lists.proofs.Tests.{test, never}
 use Rattle.board.specs.Rows.{first-given}
 use Rattle.board.proofs.Calls.Rows.{row-passed}
 use Rattle.lines.specs.Bytes.{Bytes}
 use Rattle.lines.specs.Fields.{is-letter}
 use Rattle.lines.specs.Reading.{Request, open-board, admit-job, close-slot, Form, forms, form-in, field, form-of, too-long, out-of-turn, form-rows, line-rows, line-number, with-values, request-by, request}
 
--- what holds of every row of a table
+-- what holds of every form of a table
 unfoldable pub Every : (Form → Type 0) → List Form → Type 0
 Every P [] = record {}
-Every P (r ∷ rows) = P r × Every P rows
+Every P (r ∷ rs) = P r × Every P rs
 
--- a row that is found has the letter, and what holds of every row holds of it
-pub found : (P : Form → Type 0) (rows : List Form) → Every P rows → (f : Bytes) (r : Form) → form-in rows f ≡ some r → (is-letter (r .letter) f ≡ true) × P r
+-- the first form with the letter is found
+module _ (r : Form) (rs : List Form) (f : Bytes) where
+  form-here : is-letter (r .letter) f ≡ true → form-in (r ∷ rs) f ≡ some r
+  unfolding form-in
+  form-here t = simp t
+
+  form-later : is-letter (r .letter) f ≡ false → form-in (r ∷ rs) f ≡ form-in rs f
+  unfolding form-in
+  form-later t = simp t
+
+-- a form that is found has the letter, and what holds of every form holds of it
+pub found : (P : Form → Type 0) (rs : List Form) → Every P rs → (f : Bytes) (r : Form) → form-in rs f ≡ some r → (is-letter (r .letter) f ≡ true) × P r
 unfolding Every form-in
 found P [] e f r h = let z : _≡_ {A = ℕ} 0 1 = cc in absurd (omega arith)
-found P (x ∷ rows) e f r h = go (test (is-letter (x .letter) f)) (found P rows (e .1) f r)
+found P (x ∷ rs) e f r h = go (test (is-letter (x .letter) f)) (found P rs (e .1) f r)
   where
     go : (is-letter (x .letter) f ≡ true) ⊎ (is-letter (x .letter) f ≡ false)
-        → (form-in rows f ≡ some r → (is-letter (r .letter) f ≡ true) × P r) → (is-letter (r .letter) f ≡ true) × P r
-    go (inl t) ih =
-        subst (λ y. (is-letter (y .letter) f ≡ true) × P y) (cc (cond-true (is-letter (x .letter) f) (some x) (form-in rows f) t)) (t, e .0)
-    go (inr t) ih = ih (sym (cond-false (is-letter (x .letter) f) (some x) (form-in rows f) t) ∙ h)
+        → (form-in rs f ≡ some r → (is-letter (r .letter) f ≡ true) × P r) → (is-letter (r .letter) f ≡ true) × P r
+    go (inl t) ih = subst (λ y. (is-letter (y .letter) f ≡ true) × P y) (Option·some-injective x r (sym (form-here x rs f t) ∙ h)) (t, e .0)
+    go (inr t) ih = ih (sym (form-later x rs f t) ∙ h)
 
 -- the request is for a board that is open
 unfoldable pub needs-open : Request → Bool

@@ -1,4 +1,4 @@
--- The table of line letters, and rows 11 to 15, which are read off it. A further letter is a row of the table and a case of `Request`.
+-- The forms of a line, one for each letter, and rows 11 to 15, which are read off them. A further letter is a form in `forms` and a case of `Request`.
 use mathlib.Core.Bool.{Bool, true, false, not, cond, _&&_}
 use mathlib.Core.List.{List, [], _∷_}
 use mathlib.Core.Option.{Option, none, some}
@@ -15,20 +15,20 @@ pub data Request : Type 0 where
   admit-job : (ticket laxity grade : ℕ) → Request
   close-slot : Request
 
--- a request that is still to be given a value for each of these fields
+-- a request that is still to be given the value of each of these fields
 abbrev pub Asks : List Kind → Type 0
 Asks [] = Request
 Asks (k ∷ ks) = ℕ → Asks ks
 
--- A row of the table: a letter; the fields after it; whether the line is for a board that is open, or comes while none is; and what it asks for with
--- the values of these fields.
+-- The form of a line: its letter, what its fields after the first are, whether it is for a board that is open (or for none), and what it asks for,
+-- which is given the values of these fields in their order.
 pub record Form : Type 0 where
   pub letter : ℕ
   pub after : List Kind
   pub for-open : Bool
   pub asks : Asks after
 
--- '`D,depth` opens, `A,ticket,wait,grade` admits, `B` closes the slot'
+-- '`D,depth` opens, `A,ticket,wait,grade` admits, `B` closes the slot'. 'Fields stand in fixed order.'
 unfoldable pub forms : List Form
 forms =
     record { letter = letter-D; after = a-number ∷ []; for-open = false; asks = open-board }
@@ -36,10 +36,10 @@ forms =
     ∷ record { letter = letter-B; after = []; for-open = true; asks = close-slot }
     ∷ []
 
--- the row of a first field: none where the field is no letter of the table
+-- the form with this first field: none where it is no letter of a form
 unfoldable pub form-in : List Form → Bytes → Option Form
 form-in [] f = none
-form-in (r ∷ rows) f = cond (is-letter (r .letter) f) (some r) (form-in rows f)
+form-in (r ∷ rs) f = cond (is-letter (r .letter) f) (some r) (form-in rs f)
 
 -- the n-th field of a line, from 0
 unfoldable pub field : ℕ → Bytes → Bytes
@@ -48,7 +48,8 @@ field n l = getD (fields l) n []
 unfoldable pub form-of : Bytes → Option Form
 form-of l = form-in forms (field 0 l)
 
--- row 11: 'more than 40 bytes, the end of line not counted'. The 40 is the constant `LONGEST_LINE` of crate reading, which proves them equal.
+-- Row 11: 'more than 40 bytes, the end of line not counted'. In src/ of crate reading this is the constant `LONGEST_LINE`; the function `limits` there
+-- proves that the two are the same.
 unfoldable pub longest-line : ℕ
 longest-line = 40
 
@@ -59,8 +60,8 @@ too-long l = ltb longest-line (length l)
 unfoldable pub fields-wanted : Form → ℕ
 fields-wanted r = suc (length (r .after))
 
--- Row 14: 'a field after the first is not 1 to 10 decimal digits, or is above 4,294,967,295; an A line's grade may be blank'. The fields are of these
--- kinds, from the n-th on.
+-- Row 14: 'a field after the first is not 1 to 10 decimal digits, or is above 4,294,967,295; an A line's grade may be blank'. 'A line that passes
+-- row 13 is read field by field': from the n-th on, the fields are to be of these kinds.
 unfoldable pub readable : List Kind → ℕ → Bytes → Bool
 readable [] n l = true
 readable (k ∷ ks) n l = readable-as k (field n l) && readable ks (suc n) l
@@ -70,7 +71,7 @@ unfoldable pub out-of-turn : (for-open opened : Bool) → Bool
 out-of-turn false opened = opened
 out-of-turn true opened = not opened
 
--- row 12: 'first field is not A, B or D'; rows 13 to 15 by the letter's row of the table
+-- row 12: 'first field is not A, B or D'; past it rows 13 to 15 of the line's form
 unfoldable pub form-rows : Option Form → Bool → Bytes → List Row
 form-rows none opened l = 12 if true ∷ []
 form-rows (some r) opened l =
@@ -86,12 +87,12 @@ line-rows opened l = 11 if too-long l ∷ form-rows (form-of l) opened l
 unfoldable pub line-number : Bool → Bytes → ℕ
 line-number opened l = first-given (line-rows opened l)
 
--- a request with the values of its fields, from the n-th on
+-- a request with the values of these fields, from the n-th on
 unfoldable pub with-values : (ks : List Kind) → Asks ks → ℕ → Bytes → Request
 with-values [] q n l = q
 with-values (k ∷ ks) q n l = with-values ks (q (value-as k (field n l))) (suc n) l
 
--- what a line of this form asks for; where there is no form row 12 refuses the line, and no one looks at this
+-- what a line of this form asks for; row 12 refuses a line of none, so the first case is never used
 unfoldable pub request-by : Option Form → Bytes → Request
 request-by none l = close-slot
 request-by (some r) l = with-values (r .after) (r .asks) 1 l

@@ -71,7 +71,7 @@ answer-close s b i =
     })
     (refused s i (r .refusal))
 
--- what is answered on the board that is open; rows 11 to 15 let no line that needs one through while none is, so that case never comes up
+-- An answer on the board that is open. While none is, row 15 refuses every line that is for an open one (proofs/InTurn): the first case is never used.
 unfoldable pub on-board : Session → Option Board → (Board → Answer) → Answer
 on-board s none f = record { output = []; session = s }
 on-board s (some b) f = f b

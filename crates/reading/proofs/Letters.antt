@@ -1,4 +1,4 @@
--- What a first field's answer says of its bytes and of the table.
+-- What a first field's answer says of its bytes and of the line's form.
 use mathlib.Core.Path.{_≡_, refl, sym, ap, _∙_}
 use mathlib.Core.List.{[], _∷_}
 use mathlib.Core.Bool.{Bool, true, false}
@@ -42,13 +42,13 @@ closes c l d a = go (test (eqb c letter-B))
     go (inl b) = simp (ne-eqb c letter-D d, ne-eqb c letter-A a, b)
     go (inr b) = simp (ne-eqb c letter-D d, ne-eqb c letter-A a, b)
 
--- the row of the table from which a letter's answer comes; the letter alone finds it too
+-- the form from which a letter's answer comes; the letter alone finds it too
 pub record Known (f : Bytes) (c n : ℕ) (o : Bool) : Type 0 where
-  pub row : Form
-  pub of-field : form-in forms f ≡ some row
-  pub of-letter : form-in forms (c ∷ []) ≡ some row
-  pub wanted : fields-wanted row ≡ n
-  pub for-open : row .for-open ≡ o
+  pub form : Form
+  pub of-field : form-in forms f ≡ some form
+  pub of-letter : form-in forms (c ∷ []) ≡ some form
+  pub wanted : fields-wanted form ≡ n
+  pub for-open : form .for-open ≡ o
 
 finds-itself : Every (λ r. form-in forms (r .letter ∷ []) ≡ some r) forms
 unfolding Every form-in forms is-letter letter-A letter-B letter-D
@@ -63,7 +63,7 @@ letter-says f c n o e = go (form-in forms f) refl e
     go (some r) k e =
         let same = values-given 0 (r .letter, fields-wanted r, r .for-open) (c, n, o) e .1 in
         record {
-          row = r;
+          form = r;
           of-field = k;
           of-letter = ap (λ x. form-in forms (x .0 ∷ [])) (sym same) ∙ found _ forms finds-itself f r k .1;
           wanted = ap (λ x. x .1) same;

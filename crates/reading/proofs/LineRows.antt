@@ -64,7 +64,7 @@ module _ (o : Bool) (l : Bytes) where
       known : Known (field 0 l) c n t
       known = letter-says (field 0 l) c n t e
 
-      past-12 : line-number o l ≡ first-given (form-rows (some (known .row)) o l)
+      past-12 : line-number o l ≡ first-given (form-rows (some (known .form)) o l)
       unfolding form-of
       past-12 = past-11 (known .of-field)
 
@@ -73,12 +73,12 @@ module _ (o : Bool) (l : Bytes) where
       row-13 h = given 12 _ _ past-12 (ap not (ne-eqb (length (fields l)) _ (λ k. h (k ∙ known .wanted))))
 
       module _ (k : length (fields l) ≡ n) where
-        past-13 : line-number o l ≡ first-given (drop 1 (form-rows (some (known .row)) o l))
+        past-13 : line-number o l ≡ first-given (drop 1 (form-rows (some (known .form)) o l))
         unfolding form-rows
         past-13 = past-12 ∙ row-skipped 13 _ _ (ap not (eq-eqb (length (fields l)) _ (k ∙ sym (known .wanted))))
 
         -- what the fields' answer comes from
-        fields-say : after-letter c l ≡ fields-read (known .row .after) (known .row .asks) 1 l
+        fields-say : after-letter c l ≡ fields-read (known .form .after) (known .form .asks) 1 l
         unfolding after-letter form-read
         fields-say = ap (λ (q : Option Form). form-read q l) (known .of-letter)
 
@@ -90,16 +90,16 @@ module _ (o : Bool) (l : Bytes) where
 
         module _ (a : Asked) (h : AsksFor a) (d : asked-result a ≡ after-letter c l) where
           -- the fields are readable, and the request is the line's
-          readable-here : (not (readable (known .row .after) 1 l) ≡ false) × (with-values (known .row .after) (known .row .asks) 1 l ≡ asks a h .0)
+          readable-here : (not (readable (known .form .after) 1 l) ≡ false) × (with-values (known .form .after) (known .form .asks) 1 l ≡ asks a h .0)
           unfolding fields-read
           readable-here = row-not-given 13 _ _ (asks a h .0) (sym (asks a h .1) ∙ d ∙ fields-say)
 
-          past-14 : line-number o l ≡ first-given (drop 2 (form-rows (some (known .row)) o l))
+          past-14 : line-number o l ≡ first-given (drop 2 (form-rows (some (known .form)) o l))
           unfolding form-rows
           past-14 = past-13 ∙ row-skipped 14 _ _ (readable-here .0)
 
-          turn-here : out-of-turn (known .row .for-open) o ≡ not (Bool·beq o t)
-          turn-here = turn-test (known .row .for-open) o ∙ ap (λ (f : Bool). not (Bool·beq o f)) (known .for-open)
+          turn-here : out-of-turn (known .form .for-open) o ≡ not (Bool·beq o t)
+          turn-here = turn-test (known .form .for-open) o ∙ ap (λ (f : Bool). not (Bool·beq o f)) (known .for-open)
 
           pub row-15 : not (Bool·beq o t) ≡ true → (15, none) ≡ line-result o l
           unfolding form-rows

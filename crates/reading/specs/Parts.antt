@@ -37,7 +37,7 @@ unfoldable pub letter-result : Letter → Result (ℕ × ℕ × Bool)
 letter-result (Is c n o) = (0, some (c, n, o))
 letter-result Other = (12, none)
 
--- row 12, or the same of a row of the table
+-- row 12, or the same of a form
 unfoldable pub form-result : Option Form → Result (ℕ × ℕ × Bool)
 form-result none = (12, none)
 form-result (some r) = (0, some (r .letter, fields-wanted r, r .for-open))

@@ -28,18 +28,18 @@ pub enum Asked {
     Refused(u8),
 }
 
-// What a line's first field is: a letter, how many fields its line has and whether it is for a board that is open; or something else.
+// What a line's first field is: a letter, with how many fields its line has and whether it is for a board that is open; or something else.
 enum Letter {
     Is(u8, usize, bool),
     Other,
 }
 
-// The definitions' most bytes of a line is the constant.
+// The definition's most bytes of a line is the constant.
 fn limits()
     ensures { λ r. do ⌜ (← ⟦LONGEST_LINE⟧ .entry) ≡ longest-line ⌝ }
 {}
 
-// The table of letters. Row 12: a first field that is none of them.
+// The table of letters. Row 12 refuses a first field that is none of them.
 fn letter_field(f: &[u8]) -> Letter
     ensures { λ r. ⌜ letter-result r ≡ letter-read (now (f .entry)) ⌝ }
 {
@@ -55,7 +55,7 @@ fn letter_field(f: &[u8]) -> Letter
     }
 }
 
-// Row 14 of a line that opens.
+// The fields of a line that opens: row 14, or the depth.
 fn read_open(line: &[u8]) -> Asked
     ensures { λ r. ⌜ asked-result r ≡ after-letter letter-D (now (line .entry)) ⌝ }
 {
@@ -65,7 +65,7 @@ fn read_open(line: &[u8]) -> Asked
     Asked::Open(depth)
 }
 
-// Row 14 of a line that admits.
+// The fields of a line that admits: row 14, or the values.
 fn read_admit(line: &[u8]) -> Asked
     ensures { λ r. ⌜ asked-result r ≡ after-letter letter-A (now (line .entry)) ⌝ }
 {
@@ -81,7 +81,7 @@ fn read_admit(line: &[u8]) -> Asked
     Asked::Admit(ticket, Laxity(laxity), grade)
 }
 
-// Row 14 of a line that starts with this letter.
+// The fields of a line that starts with this letter: row 14, or what it asks for.
 fn read_fields(line: &[u8], letter: u8) -> Asked
     ensures { λ r. ⌜ asked-result r ≡ after-letter letter (now (line .entry)) ⌝ }
 {

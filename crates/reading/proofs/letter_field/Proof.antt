@@ -1,4 +1,4 @@
--- `letter_field` answers the table's row of the field.
+-- `letter_field` answers row 12, or the letter and what its form has.
 use borrow.Author.Needs.{needs}
 use borrow.Author.Tests.{ne-eqb}
 use Rattle.lines.specs.Bytes.{letter-A, letter-B, letter-D}
