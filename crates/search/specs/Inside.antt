@@ -38,7 +38,7 @@ first-bits d start left = bits (d - left) start
 abbrev pub starting-so : Board → (start left : ℕ) → List Job
 starting-so b start left = starting (b .depth) (first-bits (b .depth) start left) (held b)
 
--- 'the least wait whose excess is smallest': a new laxity l comes before the best so far, m, where the new excess is at most the old one (a), and the old
--- one not at most the new one (c) or l less than m
+-- 'the least wait whose excess is smallest': a new laxity l comes before the best so far, m, where the new excess is at most the old one (a), and
+-- the old one not at most the new one (c) or l less than m
 abbrev pub comes-before : (a c : Bool) (l m : ℕ) → Bool
 comes-before a c l m = a && (not c || ltb l m)
