@@ -25,30 +25,58 @@ pub fn lines(slots: u32, racks: u32) -> String {
     text
 }
 
-/// One run of a program: its time, and its peak memory in kB as last seen.
-fn once(program: &str, input: &Path, output: &Path) -> io::Result<(Duration, u64)> {
+/// What the system says of a running program, as last seen: its peak memory in kB, its reads and writes, and its time inside the system.
+#[derive(Clone, Copy, Default)]
+struct Seen {
+    peak: u64,
+    reads: u64,
+    writes: u64,
+    system: Duration,
+}
+
+impl Seen {
+    fn of(id: u32) -> Option<Seen> {
+        let text = |name: &str| fs::read_to_string(format!("/proc/{id}/{name}")).ok();
+        let (status, io, stat) = (text("status")?, text("io")?, text("stat")?);
+        // behind the name, which ends with the last bracket, the time in the system is the 13th word, in hundredths of a second
+        let ticks: u64 = stat
+            .rsplit(')')
+            .next()?
+            .split_whitespace()
+            .nth(12)?
+            .parse()
+            .ok()?;
+        Some(Seen {
+            peak: named(&status, "VmHWM:")?,
+            reads: named(&io, "syscr:")?,
+            writes: named(&io, "syscw:")?,
+            system: Duration::from_millis(10 * ticks),
+        })
+    }
+}
+
+/// The number behind a name at the start of a line.
+fn named(text: &str, name: &str) -> Option<u64> {
+    let rest = text.lines().find_map(|line| line.strip_prefix(name))?;
+    rest.split_whitespace().next()?.parse().ok()
+}
+
+/// One run of a program: its time, and what was last seen of it.
+fn once(program: &str, input: &Path, output: &Path) -> io::Result<(Duration, Seen)> {
     let began = Instant::now();
     let mut child = Command::new(program)
         .stdin(File::open(input)?)
         .stdout(Stdio::from(File::create(output)?))
         .spawn()?;
-    let status = format!("/proc/{}/status", child.id());
-    let mut peak = 0;
+    let mut last = Seen::default();
     loop {
         if let Some(ended) = child.try_wait()? {
             assert!(ended.success(), "{program} failed");
-            return Ok((began.elapsed(), peak));
+            return Ok((began.elapsed(), last));
         }
-        peak = peak.max(peak_memory(&status));
+        last = Seen::of(child.id()).unwrap_or(last);
         thread::sleep(Duration::from_millis(1));
     }
-}
-
-fn peak_memory(status: &str) -> u64 {
-    let text = fs::read_to_string(status).unwrap_or_default();
-    let line = text.lines().find_map(|line| line.strip_prefix("VmHWM:"));
-    line.and_then(|rest| rest.split_whitespace().next()?.parse().ok())
-        .unwrap_or(0)
 }
 
 /// A number that stands for the lines of an output, those of the racks given up in one slot sorted, since their order is left open.
@@ -80,12 +108,14 @@ pub fn day(
 ) -> io::Result<()> {
     let (input, output) = (folder.join("day.txt"), folder.join("day.out"));
     fs::write(&input, lines(slots, racks))?;
-    let mut best = vec![(Duration::MAX, 0); programs.len()];
+    let mut best = vec![(Duration::MAX, Seen::default()); programs.len()];
     let mut expected = None;
     for _ in 0..rounds {
         for (program, least) in programs.iter().zip(&mut best) {
-            let (time, peak) = once(program, &input, &output)?;
-            *least = (least.0.min(time), least.1.max(peak));
+            let run = once(program, &input, &output)?;
+            if run.0 < least.0 {
+                *least = run;
+            }
             let printed = fingerprint(&output)?;
             assert!(
                 *expected.get_or_insert(printed) == printed,
@@ -96,16 +126,21 @@ pub fn day(
     let ours = best[0];
     let beside: Vec<String> = best[1..]
         .iter()
-        .map(|&(time, peak)| {
+        .map(|&(time, seen)| {
             format!(
-                "{:.2} ({time:.2?}, {peak} kB)",
-                ours.0.as_secs_f64() / time.as_secs_f64()
+                "{:.2} ({time:.2?}, {} kB)",
+                ours.0.as_secs_f64() / time.as_secs_f64(),
+                seen.peak
             )
         })
         .collect();
     println!(
         "a day of {slots} slots, {racks} racks each: {:.2?}, {} kB; of the model {}; of sorting {}",
-        ours.0, ours.1, beside[0], beside[1]
+        ours.0, ours.1.peak, beside[0], beside[1]
+    );
+    println!(
+        "    {} reads and {} writes, {:.2?} in the system",
+        ours.1.reads, ours.1.writes, ours.1.system
     );
     Ok(())
 }
