@@ -20,7 +20,7 @@ use Rattle.board.specs.Lent.{Lent, lent-of, LentAfter, entries, ClosedInto}
 use Rattle.boundary.specs.declared.entries.Entry.{Entry}
 use Rattle.boundary.specs.declared.entries.Parts.{Parts}
 use Rattle.boundary.specs.Listed.{EntriesAfter}
-use Rattle.boundary.specs.Parts.{written, Gathered}
+use Rattle.boundary.specs.Inner.Parts.{written, Gathered}
 use Rattle.boundary.proofs.Written.{written-none, Begins, written-all}
 
 -- row 8 asks only whether a list has as many entries as the board has places

@@ -11,7 +11,7 @@ use Rattle.board.specs.Held.{slot-number}
 use Rattle.boundary.specs.declared.entries.Entry.{Entry}
 use Rattle.boundary.specs.declared.entries.Parts.{Parts}
 use Rattle.boundary.specs.Listed.{entry-of}
-use Rattle.boundary.specs.Parts.{entry-at, written}
+use Rattle.boundary.specs.Inner.Parts.{entry-at, written}
 
 pub written-length : (ys : List Entry) (p : Parts) (n : ℕ) → length (written ys p n) ≡ length ys
 unfolding written

@@ -5,7 +5,7 @@ ghost use lib.ListN.{length};
 ghost use Rattle.board.specs.Limits.{places-held};
 ghost use Rattle.board.specs.Close.{given-up, closed};
 ghost use Rattle.boundary.specs.Listed.{EntriesAfter};
-ghost use Rattle.boundary.specs.Parts.{entry-at, Gathered};
+ghost use Rattle.boundary.specs.Inner.Parts.{entry-at, Gathered};
 use board::Board;
 use board::Closed;
 use board::Slot;

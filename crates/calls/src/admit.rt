@@ -7,7 +7,7 @@ ghost use Rattle.board.specs.Limits.{longest-laxity, places-held, deepest};
 ghost use Rattle.board.specs.Rows.{first-given, admit-rows};
 ghost use Rattle.board.specs.Held.{slot-number};
 ghost use Rattle.board.specs.Admit.{admitted-if, admitted};
-ghost use Rattle.calls.specs.InLimits.{in-slot-before, LetIn, admitted-in-limits};
+ghost use Rattle.calls.specs.Inner.InLimits.{in-slot-before, LetIn, admitted-in-limits};
 use board::Admitted;
 use board::Board;
 use board::Laxity;

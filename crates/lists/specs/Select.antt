@@ -1,4 +1,4 @@
--- Lists and tests: the elements that pass, how mhas pass, whether all or any do.
+-- Lists and tests: the elements that pass, how many pass, whether all or any do.
 use mathlib.Core.Bool.{Bool, true, false, cond, _&&_, _||_}
 use mathlib.Core.List.{List, [], _∷_}
 use Prim.Native.Nat.{ℕ, _+_}

@@ -1,4 +1,3 @@
-pub mod Days
-pub mod Machines
+pub mod Inner
 pub mod Runs
 pub mod Status

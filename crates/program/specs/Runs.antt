@@ -12,8 +12,8 @@ use Rattle.program.specs.declared.run.Ended.{Ended}
 use Rattle.program.specs.declared.run.Ended.the-variants.{Whole, ReadFailed, WriteFailed, TooLong}
 use Rattle.program.specs.declared.run.Outcome.{Outcome}
 use Rattle.program.specs.declared.run.Taken.{Taken}
-use Rattle.program.specs.Days.{GoodDay, line-room}
-use Rattle.program.specs.Machines.{machine-of}
+use Rattle.program.specs.Inner.Days.{GoodDay, line-room}
+use Rattle.program.specs.Inner.Machines.{machine-of}
 
 -- `Outcome::MOST_READ`
 unfoldable pub most-read : ℕ

@@ -3,7 +3,7 @@ ghost use mathlib.Core.Path.{_≡_};
 ghost use Prim.Native.Nat.{_+_, _≤_, _<_, _^_};
 ghost use lib.ListN.{length};
 ghost use Rattle.lines.specs.Machine.{most-held};
-ghost use Rattle.program.specs.Days.{GoodDay};
+ghost use Rattle.program.specs.Inner.Days.{GoodDay};
 ghost use Rattle.program.specs.Runs.{buffer-length, ChunkTaken, Stopped, Ran};
 ghost use Rattle.program.specs.declared.run.Ended.the-variants.{WriteFailed, TooLong};
 use crate::feed;

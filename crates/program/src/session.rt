@@ -9,7 +9,7 @@ ghost use Rattle.board.specs.Events.{given-up-kind, event, baked-events, fed};
 ghost use Rattle.lines.specs.Printing.{printed};
 ghost use Rattle.lines.specs.Session.{refused, answer-open, answer-admit, answer-close};
 ghost use Rattle.printing.specs.Lines.{line-numbers, room};
-ghost use Rattle.program.specs.Days.{session-of, GoodDay, line-room, Given, PutWithin, Answered, printed-each};
+ghost use Rattle.program.specs.Inner.Days.{session-of, GoodDay, line-room, Given, PutWithin, Answered, printed-each};
 use board::Board;
 use board::Laxity;
 use board::Tally;

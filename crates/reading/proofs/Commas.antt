@@ -13,7 +13,7 @@ use borrow.Author.Tests.{eq-eqb, ne-eqb}
 use Rattle.lists.proofs.Tests.{test, cond-true, cond-false}
 use Rattle.lines.specs.Bytes.{Bytes, comma, onto-first, fields}
 use Rattle.lines.specs.Reading.{field}
-use Rattle.reading.specs.Parts.{to-comma}
+use Rattle.reading.specs.Inner.Parts.{to-comma}
 
 -- a line has a first field
 some-field : (l : Bytes) → (f : Bytes) × (fs : List Bytes) × (fields l ≡ f ∷ fs)

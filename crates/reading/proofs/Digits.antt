@@ -15,7 +15,7 @@ use Rattle.lines.specs.Bytes.{Bytes}
 use Rattle.lines.specs.Fields.{is-digit, value-after, value, is-number, is-blank, a-number, a-grade, readable-as, value-as}
 use Rattle.reading.specs.declared.numbers.Field.the-variants.{Number, Bad}
 use Rattle.reading.specs.Answers.{result}
-use Rattle.reading.specs.Parts.{unless, field-result, field-read}
+use Rattle.reading.specs.Inner.Parts.{unless, field-result, field-read}
 use Rattle.reading.proofs.Commas.{step}
 
 pub digit-bounds : (b : ℕ) → is-digit b ≡ true → (48 ≤ b) × (b ≤ 57)

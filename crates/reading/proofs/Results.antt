@@ -6,7 +6,7 @@ use Prim.Native.Nat.{ℕ, zero, suc, _<_}
 use native.Mathlib.Omega.{arith}
 use Rattle.board.specs.Rows.{_if_, first-given}
 use Rattle.reading.specs.Answers.{Result, result}
-use Rattle.reading.specs.Parts.{unless}
+use Rattle.reading.specs.Inner.Parts.{unless}
 
 -- a refusal is no answer with values
 pub not-both : {A : Type 0} (m n : ℕ) (a : A) → _≡_ {A = Result A} (m, none) (n, some a) → ⊥

@@ -4,7 +4,7 @@ ghost use Prim.Native.Nat.{_+_, _≤_};
 ghost use lib.ListN.{length, drop};
 ghost use Rattle.lines.specs.Bytes.{fields};
 ghost use Rattle.lines.specs.Reading.{field};
-ghost use Rattle.reading.specs.Parts.{to-comma};
+ghost use Rattle.reading.specs.Inner.Parts.{to-comma};
 
 const COMMA: u8 = b',';
 

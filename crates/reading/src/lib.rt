@@ -3,7 +3,7 @@ ghost use mathlib.Core.Path.{_≡_};
 ghost use Rattle.lines.specs.Bytes.{letter-A, letter-D};
 ghost use Rattle.lines.specs.Reading.{longest-line};
 ghost use Rattle.reading.specs.Answers.{asked-result, line-result};
-ghost use Rattle.reading.specs.Parts.{letter-result, letter-read, after-letter};
+ghost use Rattle.reading.specs.Inner.Parts.{letter-result, letter-read, after-letter};
 
 mod fields;
 mod numbers;

@@ -1,7 +1,7 @@
 // A field read as a number.
 ghost use mathlib.Core.Path.{_≡_};
 ghost use Rattle.lines.specs.Fields.{is-digit, a-number, a-grade};
-ghost use Rattle.reading.specs.Parts.{field-result, field-read};
+ghost use Rattle.reading.specs.Inner.Parts.{field-result, field-read};
 
 // A field's answer: its number, or that row 14 refuses it.
 pub(crate) enum Field {

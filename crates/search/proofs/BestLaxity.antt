@@ -20,7 +20,7 @@ use Rattle.rule.proofs.Tight.Laxity.{tight-laxity-is, tight-laxity-only}
 use Rattle.board.specs.Limits.{longest-laxity}
 use Rattle.board.specs.declared.Laxity.{Laxity}
 use Rattle.search.specs.declared.tight.Best.{Best}
-use Rattle.search.specs.Inside.{comes-before}
+use Rattle.search.specs.Inner.Inside.{comes-before}
 
 -- a new laxity and the best so far, compared by sums
 yes-chosen : (a c l m : ℕ) → comes-before (leb a c) (leb c a) l m ≡ true → (a < c) ⊎ ((a ≤ c) × (l < m))

@@ -18,8 +18,8 @@ use Rattle.board.specs.declared.Place.{Place}
 use Rattle.board.specs.declared.Board.{Board}
 use Rattle.board.specs.Limits.{places-held, deepest}
 use Rattle.board.specs.Held.{slot-of, job-in, used, held}
-use Rattle.search.specs.Seen.{seen-job, seen, bakes-seen}
-use Rattle.search.specs.Inside.{SeenOf}
+use Rattle.search.specs.Inner.Seen.{seen-job, seen, bakes-seen}
+use Rattle.search.specs.Inner.Inside.{SeenOf}
 use Rattle.search.proofs.Seeing.{facts-seen, member-seen, none-seen}
 use Rattle.search.proofs.Walk.{place-at, jobs-to, jobs-all, one-more, none-more}
 

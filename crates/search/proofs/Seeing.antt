@@ -16,7 +16,7 @@ use Rattle.rule.specs.Job.{Job, laxity, in-date}
 use Rattle.board.specs.declared.Board.{Board}
 use Rattle.board.specs.Limits.{longest-laxity, deepest}
 use Rattle.board.specs.Held.{slot-of, held}
-use Rattle.search.specs.Seen.{seen-job, seen}
+use Rattle.search.specs.Inner.Seen.{seen-job, seen}
 
 pub record JobSeen (now d : ℕ) (r : Job) : Type 0 where
   pub shallow : d ≤ deepest

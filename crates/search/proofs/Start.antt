@@ -16,7 +16,7 @@ use Rattle.rule.specs.Job.{Job}
 use Rattle.rule.specs.Grade.{bits, graded}
 use Rattle.rule.proofs.Bits.Number.{number, length-bits, number-bits, bits-number, number-more}
 use Rattle.rule.proofs.Bits.Reading.{graded-reads}
-use Rattle.search.specs.Inside.{Start, first-bits}
+use Rattle.search.specs.Inner.Inside.{Start, first-bits}
 
 -- twice the start, or one more, with one bit fewer left
 next-room : (d left start : ℕ) → Start d start left → 1 ≤ left → Start d (start * 2 + 1) (left - 1)

@@ -19,7 +19,7 @@ use Rattle.board.specs.declared.Place.{Place}
 use Rattle.board.specs.declared.Board.{Board}
 use Rattle.board.specs.Limits.{longest-laxity, places-held, deepest}
 use Rattle.board.specs.Held.{slot-of, job-in, blank, used, held}
-use Rattle.search.specs.Inside.{AllSeen, Start, first-bits, starting-so}
+use Rattle.search.specs.Inner.Inside.{AllSeen, Start, first-bits, starting-so}
 use Rattle.search.proofs.Seeing.{JobSeen, seen-facts}
 use Rattle.search.proofs.Start.{starts-so, start-small, start-short}
 

@@ -6,7 +6,7 @@ ghost use Prim.Native.Nat.{_-_, _^_, _≤_, _<_};
 ghost use Rattle.rule.specs.Grade.{bits};
 ghost use Rattle.rule.specs.Descent.{next-bit, descend as descent};
 ghost use Rattle.board.specs.Held.{slot-of, held};
-ghost use Rattle.search.specs.Inside.{AllSeen, Start, first-bits};
+ghost use Rattle.search.specs.Inner.Inside.{AllSeen, Start, first-bits};
 use crate::tight;
 use crate::within;
 use board::Board;

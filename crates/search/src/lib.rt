@@ -4,7 +4,7 @@
 // grades that start so are below (start + 1) * 2 ^ left, which is at most 2 ^ depth.
 ghost use mathlib.Core.Path.{_≡_};
 ghost use Rattle.rule.specs.Bake.{ticket-of, grade-of};
-ghost use Rattle.search.specs.Seen.{bakes-seen};
+ghost use Rattle.search.specs.Inner.Seen.{bakes-seen};
 use board::Board;
 
 mod descent;

@@ -6,7 +6,7 @@ ghost use Rattle.lists.specs.Select.{select};
 ghost use Rattle.rule.specs.Job.{Job, laxity};
 ghost use Rattle.rule.specs.Bake.{sooner as is-sooner, soonest as soonest-in, ticket-of, grade-of};
 ghost use Rattle.board.specs.Held.{slot-of, job-in};
-ghost use Rattle.search.specs.Inside.{AllSeen, Start, starting-so};
+ghost use Rattle.search.specs.Inner.Inside.{AllSeen, Start, starting-so};
 use crate::Baked;
 use crate::within;
 use board::Board;

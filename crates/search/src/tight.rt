@@ -7,7 +7,7 @@ ghost use lib.Signed.{leZ};
 ghost use Rattle.rule.specs.Tight.{tight-laxity};
 ghost use Rattle.board.specs.Limits.{longest-laxity, places-held};
 ghost use Rattle.board.specs.Held.{slot-of};
-ghost use Rattle.search.specs.Inside.{AllSeen, Start, starting-so, comes-before};
+ghost use Rattle.search.specs.Inner.Inside.{AllSeen, Start, starting-so, comes-before};
 use crate::within;
 use board::Board;
 use board::Laxity;

@@ -7,7 +7,7 @@ ghost use Rattle.lists.specs.Select.{how-many};
 ghost use Rattle.rule.specs.Job.{Job, laxity};
 ghost use Rattle.board.specs.Limits.{deepest, longest-laxity, places-held};
 ghost use Rattle.board.specs.Held.{slot-of, job-in};
-ghost use Rattle.search.specs.Inside.{AllSeen, Start, starting-so};
+ghost use Rattle.search.specs.Inner.Inside.{AllSeen, Start, starting-so};
 use board::Board;
 use board::Laxity;
 use board::Place;

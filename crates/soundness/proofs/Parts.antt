@@ -18,7 +18,7 @@ use Rattle.board.specs.Sound.{blank-past-count, sound}
 use Rattle.board.proofs.Soundness.Facts.{admitted-in}
 use Rattle.board.proofs.Soundness.Apart.{blanks, facts}
 use Rattle.board.proofs.Soundness.Together.{blank-places, all-sound}
-use Rattle.soundness.specs.Walk.{limit-tests, in-limits, nothing-seen, all-well}
+use Rattle.soundness.specs.Inner.Walk.{limit-tests, in-limits, nothing-seen, all-well}
 use Rattle.soundness.proofs.Sharing.{shares-most, none-before}
 use Rattle.soundness.proofs.Walk.{Well, well-facts, facts-well}
 

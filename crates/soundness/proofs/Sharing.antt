@@ -18,7 +18,7 @@ use Rattle.board.specs.Limits.{most-in-slot}
 use Rattle.board.specs.Held.{job-in}
 use Rattle.board.proofs.Soundness.Facts.{admitted-in}
 use Rattle.soundness.specs.declared.Seen.{Seen}
-use Rattle.soundness.specs.Walk.{sharing-with}
+use Rattle.soundness.specs.Inner.Walk.{sharing-with}
 
 -- the jobs in some places, and their admitted slots
 abbrev pub jobs : List Place → List Job

@@ -10,7 +10,7 @@ use Rattle.lists.specs.Select.{every}
 use Rattle.board.specs.declared.Board.{Board}
 use Rattle.board.specs.Held.{slot-of, blank}
 use Rattle.soundness.specs.declared.Seen.{Seen}
-use Rattle.soundness.specs.Walk.{seen-with, all-well}
+use Rattle.soundness.specs.Inner.Walk.{seen-with, all-well}
 
 module _ {A : Type 0} (p : A → Bool) (l : List A) (i : ℕ) where
   -- the test of the next element goes into the flag

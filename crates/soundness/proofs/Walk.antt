@@ -20,7 +20,7 @@ use Rattle.board.specs.Limits.{most-in-slot}
 use Rattle.board.specs.Held.{slot-of, job-in}
 use Rattle.board.proofs.Soundness.Facts.{JobFacts, admitted-in}
 use Rattle.soundness.specs.declared.Seen.{Seen}
-use Rattle.soundness.specs.Walk.{sharing-with, is-short, next-tests, well-with, seen-with, all-well}
+use Rattle.soundness.specs.Inner.Walk.{sharing-with, is-short, next-tests, well-with, seen-with, all-well}
 use Rattle.soundness.proofs.Sharing.{jobs, slots, shares, shares-most, sharing-is, shared-next, few-before}
 
 abbrev tickets : List Place → List ℕ

@@ -5,7 +5,7 @@ ghost use Prim.Native.Nat.{_≤_};
 ghost use Rattle.board.specs.Limits.{places-held, deepest};
 ghost use Rattle.board.specs.Held.{used};
 ghost use Rattle.board.specs.Sound.{is-blank, blank-past-count, sound};
-ghost use Rattle.soundness.specs.Walk.{in-limits, nothing-seen, sharing-with, is-short, seen-with, all-well};
+ghost use Rattle.soundness.specs.Inner.Walk.{in-limits, nothing-seen, sharing-with, is-short, seen-with, all-well};
 use board::Board;
 use board::Place;
 use board::Slot;

@@ -12,8 +12,8 @@ use Rattle.board.specs.Rows.{_if_, first-given, admit-rows}
 use Rattle.board.specs.Held.{slot-of, slot-number}
 use Rattle.board.specs.Admit.{admitted-if}
 use Rattle.board.proofs.Calls.Rows.{admits}
-use Rattle.soundness.specs.Walk.{in-limits}
-use Rattle.calls.specs.InLimits.{_or-else_, limits-number, in-slot-before, admit-number-in-limits, LetIn}
+use Rattle.soundness.specs.Inner.Walk.{in-limits}
+use Rattle.calls.specs.Inner.InLimits.{_or-else_, limits-number, in-slot-before, admit-number-in-limits, LetIn}
 use Rattle.calls.proofs.Limits.{within, limits-passed}
 
 -- a number that is not 0 stands

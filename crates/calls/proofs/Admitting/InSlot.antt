@@ -20,7 +20,7 @@ use Rattle.board.specs.Sound.{sound}
 use Rattle.board.proofs.Soundness.Facts.{admitted-in}
 use Rattle.board.proofs.Soundness.Apart.{facts}
 use Rattle.board.proofs.Soundness.HeldCount.{held-count}
-use Rattle.calls.specs.InLimits.{in-slot-before}
+use Rattle.calls.specs.Inner.InLimits.{in-slot-before}
 
 before-none : (b : Board) → in-slot-before b 0 ≡ 0
 unfolding in-slot-before

@@ -15,7 +15,7 @@ use Rattle.board.specs.Admit.{admit-number, admitted-if, admitted}
 use Rattle.board.proofs.Soundness.FreePlace.{free-place}
 use Rattle.board.proofs.Calls.Rows.{row-skipped, admits}
 use Rattle.board.proofs.Calls.SoundAfter.{admit-number-sound}
-use Rattle.calls.specs.InLimits.{_or-else_, in-slot-before, admit-number-in-limits, admitted-in-limits}
+use Rattle.calls.specs.Inner.InLimits.{_or-else_, in-slot-before, admit-number-in-limits, admitted-in-limits}
 use Rattle.calls.proofs.Limits.{sound-in-limits, limits-passed}
 use Rattle.calls.proofs.Admitting.InSlot.{in-slot-is}
 

@@ -26,7 +26,7 @@ use Rattle.lines.proofs.NeverMet.MayMeet.{opened-shallow}
 use Rattle.printing.specs.Lines.{room}
 use Rattle.program.specs.declared.session.Day.{Day}
 use Rattle.program.specs.declared.session.Said.{Said}
-use Rattle.program.specs.Days.{session-of, GoodDay, line-room, Given, PutWithin}
+use Rattle.program.specs.Inner.Days.{session-of, GoodDay, line-room, Given, PutWithin}
 
 -- a day with an open board, and where the output ends
 abbrev pub said : Board → Tally → ℕ → Said

@@ -24,7 +24,7 @@ use Rattle.lines.specs.Session.{refused, printed-gone, answer-close}
 use Rattle.printing.specs.Lines.{room}
 use Rattle.printing.proofs.Puts.{put-append}
 use Rattle.program.specs.declared.session.Day.{Day}
-use Rattle.program.specs.Days.{session-of, GoodDay, line-room, Given, PutWithin, printed-each}
+use Rattle.program.specs.Inner.Days.{session-of, GoodDay, line-room, Given, PutWithin, printed-each}
 use Rattle.program.proofs.Answering.Answers.{said, open-session, given-as}
 use Rattle.program.proofs.Answering.Entries.{few-given-up, printed-jobs}
 

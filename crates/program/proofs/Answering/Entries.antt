@@ -25,8 +25,8 @@ use Rattle.board.proofs.Soundness.HeldCount.{held-count}
 use Rattle.lines.specs.Bytes.{letter-G}
 use Rattle.lines.specs.Printing.{printed}
 use Rattle.lines.specs.Session.{printed-gone}
-use Rattle.calls.specs.Closings.{InOrder, LentInOrder, ClosedInOrder}
-use Rattle.program.specs.Days.{printed-each}
+use Rattle.calls.specs.Inner.Closings.{InOrder, LentInOrder, ClosedInOrder}
+use Rattle.program.specs.Inner.Days.{printed-each}
 
 module _ (k : ℕ) (T G : List ℕ) (i : ℕ) where
   -- the line of the i-th ticket, and those behind it

@@ -10,7 +10,7 @@ use Rattle.printing.specs.Lines.{room, put, line-of, with-line, end-after}
 use Rattle.printing.specs.declared.Line.{Line}
 use Rattle.printing.proofs.Puts.{put-append}
 use Rattle.printing.proofs.Placed.{whole-placed, whole-end}
-use Rattle.program.specs.Days.{PutWithin}
+use Rattle.program.specs.Inner.Days.{PutWithin}
 
 -- a line made and put
 pub line-said : (out : Bytes) (at : ℕ) (bs : Bytes) (l : Line) (end : ℕ) (out' : Bytes) → at + room ≤ length out → l ≡ line-of bs → l .len ≤ room

@@ -13,7 +13,7 @@ use Rattle.reading.specs.declared.Asked.the-variants.{Open, Admit, Close, Refus
 use Rattle.reading.specs.Answers.{asked-result, line-result}
 use Rattle.reading.proofs.Says.{refused-says, asked-says}
 use Rattle.program.specs.declared.session.Day.{Day}
-use Rattle.program.specs.Days.{session-of}
+use Rattle.program.specs.Inner.Days.{session-of}
 
 refused-if : (n : ℕ) (s : Session) (i : ℕ) (l : Bytes) → 0 < n → answer-if n s i l ≡ refused s i n
 unfolding answer-if

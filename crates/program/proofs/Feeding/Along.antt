@@ -11,7 +11,7 @@ use Rattle.lines.specs.Bytes.{Bytes, line-end}
 use Rattle.lines.specs.Session.{Session, answer}
 use Rattle.lines.specs.Machine.{Machine, hold, printed-by, after-byte, after-bytes, printed-along}
 use Rattle.lines.proofs.Cutting.{one-line}
-use Rattle.program.specs.Machines.{hold-all}
+use Rattle.program.specs.Inner.Machines.{hold-all}
 
 pub after-append : (m : Machine) (a b : Bytes) → after-bytes m (a ++ b) ≡ after-bytes (after-bytes m a) b
 unfolding after-bytes

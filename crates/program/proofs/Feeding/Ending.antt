@@ -14,8 +14,8 @@ use Rattle.board.specs.declared.Tally.{Tally}
 use Rattle.lines.specs.Session.{Session, Answer, answer, at-end, tally-line, printed-tally}
 use Rattle.lines.specs.Machine.{Machine, printed-at-end}
 use Rattle.program.specs.declared.session.Day.{Day}
-use Rattle.program.specs.Days.{session-of}
-use Rattle.program.specs.Machines.{last-answer}
+use Rattle.program.specs.Inner.Days.{session-of}
+use Rattle.program.specs.Inner.Machines.{last-answer}
 
 module _ (m : Machine) where
   -- no line has begun

@@ -8,7 +8,7 @@ use lib.Seq.{length-take-le, take-suc-set}
 use Rattle.lines.specs.Bytes.{Bytes}
 use Rattle.lines.specs.Machine.{hold, most-held}
 use Rattle.lines.proofs.LongLines.{hold-room, hold-full}
-use Rattle.program.specs.Machines.{used-bytes, hold-all}
+use Rattle.program.specs.Inner.Machines.{used-bytes, hold-all}
 use Rattle.program.proofs.Feeding.Parts.{part-first}
 
 module _ (bytes : Bytes) (n b : ℕ) (full : length bytes ≡ most-held) (h : n ≤ most-held) where

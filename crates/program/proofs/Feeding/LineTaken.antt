@@ -12,8 +12,8 @@ use Rattle.printing.specs.Lines.{put}
 use Rattle.program.specs.declared.session.Said.{Said}
 use Rattle.program.specs.declared.feed.Held.{Held}
 use Rattle.program.specs.declared.feed.Desk.{Desk}
-use Rattle.program.specs.Days.{session-of, GoodDay, line-room, Answered}
-use Rattle.program.specs.Machines.{held-bytes, machine-of, used-bytes, LineEnds, hold-all, TakenIn}
+use Rattle.program.specs.Inner.Days.{session-of, GoodDay, line-room, Answered}
+use Rattle.program.specs.Inner.Machines.{held-bytes, machine-of, used-bytes, LineEnds, hold-all, TakenIn}
 use Rattle.program.proofs.Feeding.Along.{part-after, part-printed, line-after, line-printed}
 use Rattle.program.proofs.Feeding.Buffers.{put-none}
 use Rattle.program.proofs.Feeding.Parts.{part-last}

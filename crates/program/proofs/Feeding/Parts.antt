@@ -13,7 +13,7 @@ use Rattle.lists.specs.Select.{every}
 use Rattle.lists.proofs.Members.{every-append}
 use Rattle.lines.specs.Bytes.{Bytes, line-end}
 use Rattle.lines.proofs.Cutting.{one-line}
-use Rattle.program.specs.Machines.{used-bytes}
+use Rattle.program.specs.Inner.Machines.{used-bytes}
 
 module _ (s : Bytes) where
   pub part-none : (k : ℕ) → used-bytes s k k ≡ []

@@ -11,8 +11,8 @@ use Rattle.lines.specs.Machine.{most-held, Machine, after-bytes, printed-along}
 use Rattle.printing.specs.Lines.{put}
 use Rattle.program.specs.declared.feed.Desk.{Desk}
 use Rattle.program.specs.declared.feed.Fed.{Fed}
-use Rattle.program.specs.Days.{GoodDay, line-room}
-use Rattle.program.specs.Machines.{machine-of, used-bytes, TakenIn, GoesOn}
+use Rattle.program.specs.Inner.Days.{GoodDay, line-room}
+use Rattle.program.specs.Inner.Machines.{machine-of, used-bytes, TakenIn, GoesOn}
 use Rattle.program.proofs.Answering.Pieces.{Left, all-left, fewer-left}
 use Rattle.program.proofs.Feeding.Along.{after-append, printed-append}
 use Rattle.program.proofs.Feeding.Buffers.{put-none, put-length}

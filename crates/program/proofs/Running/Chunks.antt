@@ -10,8 +10,8 @@ use Rattle.lines.specs.Bytes.{Bytes}
 use Rattle.lines.specs.Machine.{most-held, Machine, after-bytes, printed-along}
 use Rattle.program.specs.declared.feed.Desk.{Desk}
 use Rattle.program.specs.declared.feed.Fed.{Fed}
-use Rattle.program.specs.Days.{GoodDay, line-room}
-use Rattle.program.specs.Machines.{machine-of, used-bytes, TakenIn}
+use Rattle.program.specs.Inner.Days.{GoodDay, line-room}
+use Rattle.program.specs.Inner.Machines.{machine-of, used-bytes, TakenIn}
 use Rattle.program.specs.Runs.{ChunkTaken}
 use Rattle.program.proofs.Feeding.Along.{after-append, printed-append}
 use Rattle.program.proofs.Feeding.Parts.{part-none, part-join, part-whole}

@@ -11,8 +11,8 @@ use Rattle.program.specs.declared.feed.Desk.{Desk}
 use Rattle.program.specs.declared.run.Ended.the-variants.{WriteFailed, TooLong}
 use Rattle.program.specs.declared.run.Outcome.{Outcome}
 use Rattle.program.specs.declared.run.Taken.{Taken}
-use Rattle.program.specs.Days.{GoodDay, line-room}
-use Rattle.program.specs.Machines.{machine-of, NewDesk}
+use Rattle.program.specs.Inner.Days.{GoodDay, line-room}
+use Rattle.program.specs.Inner.Machines.{machine-of, NewDesk}
 use Rattle.program.specs.Runs.{most-read, ChunkTaken, EndsSo, Ran, Stopped}
 use Rattle.program.proofs.Feeding.Along.{after-append, printed-append}
 use Rattle.program.proofs.Running.Whole.{output-length}

@@ -4,7 +4,7 @@ use borrow.Author.Tests.{ne-eqb}
 use Rattle.lines.specs.Bytes.{letter-A, letter-B, letter-D}
 use Rattle.lines.specs.Fields.{is-letter}
 use Rattle.lines.specs.Reading.{forms, form-in, fields-wanted}
-use Rattle.reading.specs.Parts.{letter-result, form-result, letter-read}
+use Rattle.reading.specs.Inner.Parts.{letter-result, form-result, letter-read}
 use Rattle.reading.proofs.Letters.{one-byte, other-length}
 use Rattle.reading.proofs.letter_field.Statement.{statement}
 use Rattle.reading.proofs.letter_field.Tie as tie

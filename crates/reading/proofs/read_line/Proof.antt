@@ -7,7 +7,7 @@ use Rattle.lines.specs.Bytes.{fields}
 use Rattle.lines.specs.Reading.{field, longest-line}
 use Rattle.reading.specs.declared.Letter.the-variants.{Is}
 use Rattle.reading.specs.Answers.{asked-result}
-use Rattle.reading.specs.Parts.{letter-result, letter-read}
+use Rattle.reading.specs.Inner.Parts.{letter-result, letter-read}
 use Rattle.reading.proofs.LineRows.{row-11, row-12, row-13, row-14, row-15, through}
 use Rattle.reading.proofs.read_line.Statement.{statement}
 use Rattle.reading.proofs.read_line.Tie as tie

@@ -5,7 +5,7 @@ use Rattle.lines.specs.Bytes.{letter-D}
 use Rattle.lines.specs.Fields.{is-letter}
 use Rattle.lines.specs.Reading.{forms, form-in}
 use Rattle.reading.specs.Answers.{asked-result}
-use Rattle.reading.specs.Parts.{form-read, after-letter}
+use Rattle.reading.specs.Inner.Parts.{form-read, after-letter}
 use Rattle.reading.proofs.FieldByField.{bad-field, good-field, no-more-fields}
 use Rattle.reading.proofs.read_open.Statement.{statement}
 use Rattle.reading.proofs.read_open.Tie as tie

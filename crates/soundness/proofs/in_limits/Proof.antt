@@ -2,7 +2,7 @@
 use borrow.Author.Needs.{needs}
 use Rattle.lists.proofs.Joined.{joined-every}
 use Rattle.board.specs.Limits.{places-held, last-slot, deepest}
-use Rattle.soundness.specs.Walk.{limit-tests, in-limits}
+use Rattle.soundness.specs.Inner.Walk.{limit-tests, in-limits}
 use Rattle.soundness.proofs.in_limits.Statement.{statement}
 use Rattle.soundness.proofs.in_limits.Tie as tie
 

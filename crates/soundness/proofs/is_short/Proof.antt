@@ -4,7 +4,7 @@ use borrow.Author.Needs.{needs}
 use borrow.Author.Tests.{leb-true, le-leb}
 use Rattle.lists.proofs.Tests.{same-test}
 use Rattle.board.specs.Limits.{longest-laxity}
-use Rattle.soundness.specs.Walk.{is-short}
+use Rattle.soundness.specs.Inner.Walk.{is-short}
 use Rattle.soundness.proofs.is_short.Statement.{statement}
 use Rattle.soundness.proofs.is_short.Tie as tie
 

@@ -5,7 +5,7 @@ use borrow.Author.Needs.{needs}
 use borrow.Author.Tests.{not-true, not-false}
 use Rattle.board.specs.Limits.{places-held}
 use Rattle.board.specs.Held.{slot-of}
-use Rattle.soundness.specs.Walk.{in-limits}
+use Rattle.soundness.specs.Inner.Walk.{in-limits}
 use Rattle.board.proofs.Known.{all-places}
 use Rattle.soundness.proofs.Parts.{sound-is, within}
 use Rattle.soundness.proofs.is_sound.Statement.{statement}

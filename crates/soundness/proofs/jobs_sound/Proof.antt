@@ -8,7 +8,7 @@ use borrow.Author.Needs.{needs}
 use Rattle.board.specs.Limits.{places-held}
 use Rattle.board.specs.Held.{blank, used}
 use Rattle.soundness.specs.declared.Seen.{Seen}
-use Rattle.soundness.specs.Walk.{seen-with, nothing-seen, all-well}
+use Rattle.soundness.specs.Inner.Walk.{seen-with, nothing-seen, all-well}
 use Rattle.board.proofs.Known.{all-places}
 use Rattle.board.proofs.Grades.{grades-of}
 use Rattle.soundness.proofs.Sharing.{sharing-most}

@@ -2,7 +2,7 @@
 use borrow.Author.Needs.{needs}
 use Rattle.lists.proofs.Joined.{joined-every}
 use Rattle.board.specs.Limits.{most-in-slot}
-use Rattle.soundness.specs.Walk.{next-tests, well-with, seen-with}
+use Rattle.soundness.specs.Inner.Walk.{next-tests, well-with, seen-with}
 use Rattle.soundness.proofs.seen_with.Statement.{statement}
 use Rattle.soundness.proofs.seen_with.Tie as tie
 

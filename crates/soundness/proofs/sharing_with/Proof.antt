@@ -2,7 +2,7 @@
 use native.Mathlib.Omega.{arith}
 use borrow.Author.Tests.{eq-eqb, ne-eqb}
 use Rattle.board.specs.Limits.{places-held}
-use Rattle.soundness.specs.Walk.{sharing-with}
+use Rattle.soundness.specs.Inner.Walk.{sharing-with}
 use Rattle.soundness.proofs.sharing_with.Statement.{statement}
 use Rattle.soundness.proofs.sharing_with.Tie as tie
 

@@ -1,7 +1,7 @@
 -- `boundary::entries::entry_at`: three reads at one place. Assumes nothing.
 use borrow.Author.Needs.{needs}
 use Rattle.board.specs.Limits.{places-held}
-use Rattle.boundary.specs.Parts.{entry-at}
+use Rattle.boundary.specs.Inner.Parts.{entry-at}
 use Rattle.boundary.proofs.entries.entry_at.Statement.{statement}
 use Rattle.boundary.proofs.entries.entry_at.Tie as tie
 

@@ -57,7 +57,7 @@ use Rattle.boundary.specs.declared.entries.Entry.{Entry}
 use Rattle.boundary.specs.declared.entries.ClosedParts.{ClosedParts}
 use Rattle.boundary.specs.declared.entries.Parts.{Parts}
 use Rattle.boundary.specs.Listed.{EntriesAfter}
-use Rattle.boundary.specs.Parts.{entry-at, written, Gathered}
+use Rattle.boundary.specs.Inner.Parts.{entry-at, written, Gathered}
 use Rattle.boundary.proofs.Written.{written-length, written-more, written-none, no-entry}
 use Rattle.boundary.proofs.entries.Entry as T
 use Rattle.boundary.proofs.entries.Entry.Laws as T′

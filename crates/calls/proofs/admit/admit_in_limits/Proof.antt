@@ -6,8 +6,8 @@ use borrow.Author.Needs.{needs}
 use borrow.Author.Tests.{not-true, not-false}
 use Rattle.board.specs.Limits.{places-held}
 use Rattle.board.specs.Held.{slot-of}
-use Rattle.soundness.specs.Walk.{in-limits}
-use Rattle.calls.specs.InLimits.{admitted-in-limits}
+use Rattle.soundness.specs.Inner.Walk.{in-limits}
+use Rattle.calls.specs.Inner.InLimits.{admitted-in-limits}
 use Rattle.calls.proofs.Limits.{within}
 use Rattle.calls.proofs.Admitting.ByNumber.{number-out, number-row, number-full, number-none, let-in, answer-refused}
 use Rattle.calls.proofs.admit.admit_in_limits.Statement.{statement}

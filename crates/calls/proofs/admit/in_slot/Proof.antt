@@ -4,7 +4,7 @@ use mathlib.Core.Path.{_≡_, ap}
 use native.Mathlib.Omega.{arith}
 use borrow.Author.Needs.{needs}
 use Rattle.board.specs.Limits.{places-held}
-use Rattle.calls.specs.InLimits.{in-slot-before}
+use Rattle.calls.specs.Inner.InLimits.{in-slot-before}
 use Rattle.calls.proofs.Admitting.InSlot.{before-more, before-no-more}
 use Rattle.calls.proofs.admit.in_slot.Statement.{statement}
 use Rattle.calls.proofs.admit.in_slot.Tie as tie

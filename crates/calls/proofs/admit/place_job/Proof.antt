@@ -3,7 +3,7 @@ use mathlib.Core.Path.{refl}
 use native.Mathlib.Omega.{arith}
 use Rattle.board.specs.Limits.{longest-laxity, places-held, last-slot, deepest}
 use Rattle.board.specs.Admit.{last-of, with-job, admitted-if}
-use Rattle.calls.specs.InLimits.{LetIn}
+use Rattle.calls.specs.Inner.InLimits.{LetIn}
 use Rattle.calls.proofs.admit.place_job.Statement.{statement}
 use Rattle.calls.proofs.admit.place_job.Tie as tie
 

@@ -7,8 +7,8 @@ use borrow.Author.Tests.{leb-true, leb-false}
 use lib.ListN.{length, take}
 use lib.Seq.{length-take-le}
 use Rattle.program.specs.declared.feed.Desk.{Desk}
-use Rattle.program.specs.Days.{line-room}
-use Rattle.program.specs.Machines.{held-bytes, TakenIn}
+use Rattle.program.specs.Inner.Days.{line-room}
+use Rattle.program.specs.Inner.Machines.{held-bytes, TakenIn}
 use Rattle.program.proofs.Feeding.Known.{held-room}
 use Rattle.program.proofs.Feeding.LineTaken.{taken-part, taken-line}
 use Rattle.program.proofs.Feeding.Taken.{taken-none, kept-length, taken-join, stops-full, stops-at-end}

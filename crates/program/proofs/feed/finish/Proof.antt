@@ -15,8 +15,8 @@ use Rattle.lines.specs.Bytes.{Bytes}
 use Rattle.lines.specs.Session.{printed-tally}
 use Rattle.lines.specs.Machine.{printed-at-end}
 use Rattle.printing.specs.Lines.{put}
-use Rattle.program.specs.Days.{GoodDay, line-room}
-use Rattle.program.specs.Machines.{machine-of, end-room, last-answer}
+use Rattle.program.specs.Inner.Days.{GoodDay, line-room}
+use Rattle.program.specs.Inner.Machines.{machine-of, end-room, last-answer}
 use Rattle.program.proofs.Answering.Pieces.{all-left, fewer-left}
 use Rattle.board.proofs.Grades.{grades-of}
 use Rattle.program.proofs.Feeding.Ending.{end-closed, end-open}

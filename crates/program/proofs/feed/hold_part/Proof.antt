@@ -8,7 +8,7 @@ use lib.ListN.{length, set, getD, length-set}
 use Rattle.lines.specs.Reading.{longest-line}
 use Rattle.lines.specs.Machine.{hold, most-held}
 use Rattle.program.specs.declared.feed.Held.{Held}
-use Rattle.program.specs.Machines.{held-bytes, used-bytes, hold-all}
+use Rattle.program.specs.Inner.Machines.{held-bytes, used-bytes, hold-all}
 use Rattle.program.proofs.Feeding.Holding.{byte-held, none-held, held-next}
 use Rattle.program.proofs.Feeding.Known.{held-room}
 use Rattle.program.proofs.Feeding.Parts.{part-none}

@@ -7,7 +7,7 @@ use lib.ListN.{length, take}
 use lib.Seq.{length-take-le}
 use Rattle.lines.specs.Session.{Answer}
 use Rattle.printing.specs.Lines.{put}
-use Rattle.program.specs.Machines.{held-bytes, machine-of}
+use Rattle.program.specs.Inner.Machines.{held-bytes, machine-of}
 use Rattle.program.proofs.Feeding.Buffers.{put-none}
 use Rattle.program.proofs.Feeding.Ending.{last-none, last-begun}
 use Rattle.program.proofs.Feeding.Known.{desk-room}

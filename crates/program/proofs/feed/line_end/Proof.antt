@@ -8,7 +8,7 @@ use lib.ListN.{length}
 use Rattle.lists.specs.Select.{every}
 use Rattle.lines.specs.Bytes.{line-end}
 use Rattle.lines.proofs.Cutting.{one-line}
-use Rattle.program.specs.Machines.{used-bytes}
+use Rattle.program.specs.Inner.Machines.{used-bytes}
 use Rattle.program.proofs.Feeding.Parts.{part-none, goes-on}
 use Rattle.program.proofs.feed.line_end.Statement.{statement}
 use Rattle.program.proofs.feed.line_end.Tie as tie

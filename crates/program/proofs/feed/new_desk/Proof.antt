@@ -7,8 +7,8 @@ use Rattle.lists.proofs.Tests.{never}
 use Rattle.board.specs.declared.Tally.{Tally}
 use Rattle.lines.specs.Session.{new-session}
 use Rattle.lines.specs.Machine.{new-machine}
-use Rattle.program.specs.Days.{session-of, GoodDay}
-use Rattle.program.specs.Machines.{held-bytes, machine-of}
+use Rattle.program.specs.Inner.Days.{session-of, GoodDay}
+use Rattle.program.specs.Inner.Machines.{held-bytes, machine-of}
 use Rattle.program.proofs.Feeding.Along.{reading}
 use Rattle.program.proofs.feed.new_desk.Statement.{statement}
 use Rattle.program.proofs.feed.new_desk.Tie as tie

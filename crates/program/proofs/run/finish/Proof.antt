@@ -5,7 +5,7 @@ use borrow.Author.Needs.{needs}
 use lib.ListN.{length}
 use lib.Seq.{length-take-le}
 use Rattle.lines.specs.Machine.{Machine, printed-at-end}
-use Rattle.program.specs.Machines.{end-room}
+use Rattle.program.specs.Inner.Machines.{end-room}
 use Rattle.program.specs.Runs.{buffer-length, EndsSo}
 use Rattle.program.proofs.Running.Whole.{output-length}
 use Rattle.program.proofs.run.finish.Statement.{statement}

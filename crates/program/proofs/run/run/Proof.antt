@@ -8,7 +8,7 @@ use borrow.Author.Tests.{not-true, not-false}
 use lib.ListN.{length, take}
 use lib.Seq.{length-take-le}
 use Rattle.streams.specs.Got.{Within}
-use Rattle.program.specs.Days.{line-room}
+use Rattle.program.specs.Inner.Days.{line-room}
 use Rattle.program.specs.Runs.{buffer-length, most-read}
 use Rattle.program.proofs.Running.Inputs.{SoFar, nothing-read, stopped, too-long, chunk-more, chunk-part}
 use Rattle.program.proofs.run.run.Statement.{statement}

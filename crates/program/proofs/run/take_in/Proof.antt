@@ -5,7 +5,7 @@ use native.Mathlib.Omega.{arith}
 use borrow.Author.Needs.{needs}
 use lib.ListN.{length}
 use lib.Seq.{length-take-le}
-use Rattle.program.specs.Days.{line-room}
+use Rattle.program.specs.Inner.Days.{line-room}
 use Rattle.program.specs.Runs.{buffer-length}
 use Rattle.program.proofs.Feeding.Taken.{kept-length}
 use Rattle.program.proofs.Running.Chunks.{Along, along-none, along-whole, along-more, along-part}

@@ -5,7 +5,7 @@ use Rattle.board.specs.Admit.{admitted}
 use Rattle.board.specs.Events.{admitted-kind}
 use Rattle.lines.specs.Bytes.{letter-A}
 use Rattle.calls.proofs.Admitting.OnSound.{admitting-on-sound}
-use Rattle.program.specs.Days.{GoodDay, line-room}
+use Rattle.program.specs.Inner.Days.{GoodDay, line-room}
 use Rattle.program.proofs.Answering.Answers.{given-as, admit-refused, admit-given}
 use Rattle.program.proofs.session.admit_line.Statement.{statement}
 use Rattle.program.proofs.session.admit_line.Tie as tie

@@ -14,7 +14,7 @@ use Rattle.board.specs.declared.Tally.{Tally}
 use Rattle.board.specs.Events.{given-up-kind, event, fed}
 use Rattle.lines.specs.Bytes.{letter-B}
 use Rattle.calls.proofs.Closing.OnSound.{meets-on-sound}
-use Rattle.program.specs.Days.{GoodDay, line-room}
+use Rattle.program.specs.Inner.Days.{GoodDay, line-room}
 use Rattle.program.proofs.Answering.Answers.{given-as}
 use Rattle.program.proofs.Answering.Entries.{Entered, entered}
 use Rattle.program.proofs.Answering.Closings.{close-refused, close-given}

@@ -1,7 +1,7 @@
 -- `program::session::open_line`: refused, or the new board. Assumes nothing.
 use borrow.Author.Needs.{needs}
 use Rattle.lines.specs.Bytes.{letter-D}
-use Rattle.program.specs.Days.{line-room}
+use Rattle.program.specs.Inner.Days.{line-room}
 use Rattle.program.proofs.Answering.Answers.{given-as, open-refused, open-given}
 use Rattle.program.proofs.session.open_line.Statement.{statement}
 use Rattle.program.proofs.session.open_line.Tie as tie

@@ -1,7 +1,7 @@
 -- `program::session::refuse`: the day is as it was. Assumes nothing.
 use borrow.Author.Needs.{needs}
 use Rattle.lines.specs.Bytes.{letter-R}
-use Rattle.program.specs.Days.{line-room}
+use Rattle.program.specs.Inner.Days.{line-room}
 use Rattle.program.proofs.Answering.Answers.{refusal-given}
 use Rattle.program.proofs.session.refuse.Statement.{statement}
 use Rattle.program.proofs.session.refuse.Tie as tie

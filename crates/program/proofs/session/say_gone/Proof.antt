@@ -8,7 +8,7 @@ use lib.ListN.{length, getD, drop}
 use Rattle.lines.specs.Bytes.{letter-G}
 use Rattle.lines.specs.Printing.{printed}
 use Rattle.printing.specs.Lines.{room}
-use Rattle.program.specs.Days.{printed-each}
+use Rattle.program.specs.Inner.Days.{printed-each}
 use Rattle.program.proofs.Answering.Pieces.{Left, all-left, fewer-left, none-left}
 use Rattle.program.proofs.Answering.Entries.{next-line, no-line}
 use Rattle.program.proofs.session.say_gone.Statement.{statement}

@@ -5,7 +5,7 @@ use native.Mathlib.Omega.{arith}
 use borrow.Author.Needs.{needs}
 use lib.ListN.{length, drop}
 use Rattle.lines.specs.Bytes.{comma}
-use Rattle.reading.specs.Parts.{to-comma}
+use Rattle.reading.specs.Inner.Parts.{to-comma}
 use Rattle.reading.proofs.Commas.{past, to-comma-here, to-comma-on}
 use Rattle.reading.proofs.fields.field_end.Statement.{statement}
 use Rattle.reading.proofs.fields.field_end.Tie as tie

@@ -4,7 +4,7 @@ use mathlib.Core.Path.{_≡_, ap, _∙_}
 use native.Mathlib.Omega.{arith}
 use borrow.Author.Needs.{needs}
 use lib.ListN.{take, drop, length-drop}
-use Rattle.reading.specs.Parts.{to-comma}
+use Rattle.reading.specs.Inner.Parts.{to-comma}
 use Rattle.reading.proofs.Commas.{first-field, to-comma-within}
 use Rattle.reading.proofs.fields.nth_field.Statement.{statement}
 use Rattle.reading.proofs.fields.nth_field.Tie as tie

@@ -5,7 +5,7 @@ use native.Mathlib.Omega.{arith}
 use Rattle.rule.specs.Grade.{bits}
 use Rattle.rule.specs.Descent.{descend as descend-of}
 use Rattle.board.specs.Held.{slot-of, held}
-use Rattle.search.specs.Inside.{first-bits}
+use Rattle.search.specs.Inner.Inside.{first-bits}
 use Rattle.search.proofs.Start.{start-small}
 use Rattle.search.proofs.NextBit.{one-fewer, none-left}
 use borrow.Fn.Kinds.{In}

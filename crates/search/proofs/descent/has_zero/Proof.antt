@@ -4,7 +4,7 @@ use native.Mathlib.Omega.{arith}
 use borrow.Author.Needs.{needs}
 use lib.Dec.{ltb}
 use Rattle.board.specs.Held.{slot-of, held}
-use Rattle.search.specs.Inside.{first-bits}
+use Rattle.search.specs.Inner.Inside.{first-bits}
 use Rattle.search.proofs.Start.{next-zero, zero-fits}
 use Rattle.search.proofs.Walk.{next-byte}
 use Rattle.search.proofs.NextBit.{zero-next}

@@ -4,7 +4,7 @@ use mathlib.Core.List.{[], _∷_, _++_}
 use native.Mathlib.Omega.{arith}
 use borrow.Author.Needs.{needs}
 use borrow.Author.Tests.{not-true, not-false}
-use Rattle.search.specs.Inside.{first-bits}
+use Rattle.search.specs.Inner.Inside.{first-bits}
 use Rattle.search.proofs.Start.{next-zero, next-one, zero-fits, one-fits}
 use Rattle.search.proofs.Walk.{next-byte}
 use Rattle.search.proofs.descent.next_start.Statement.{statement}

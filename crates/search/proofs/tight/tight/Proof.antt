@@ -13,7 +13,7 @@ use Rattle.rule.specs.Tight.{excess}
 use Rattle.rule.proofs.NoRegret.Within.{mem-starting}
 use Rattle.board.specs.Limits.{longest-laxity, places-held}
 use Rattle.board.specs.Held.{slot-of, job-in}
-use Rattle.search.specs.Inside.{first-bits, starting-so}
+use Rattle.search.specs.Inner.Inside.{first-bits, starting-so}
 use Rattle.search.proofs.Walk.{place-at, jobs-to, starts-in, starts-all, few-left, place-there, place-mem, place-in-date, place-seen, place-starts, one-more, none-more}
 use Rattle.search.proofs.BestLaxity.{BestOf, none-yet, best-more, best-all}
 use Rattle.search.proofs.tight.tight.Statement.{statement}

@@ -14,7 +14,7 @@ use Rattle.printing.specs.Lines.{room, put}
 use Rattle.program.specs.declared.feed.Held.{Held}
 use Rattle.program.specs.declared.feed.Desk.{Desk}
 use Rattle.program.specs.declared.feed.Fed.{Fed}
-use Rattle.program.specs.Days.{session-of, GoodDay, line-room}
+use Rattle.program.specs.Inner.Days.{session-of, GoodDay, line-room}
 
 -- the bytes of the line so far
 unfoldable pub held-bytes : Held → Bytes

@@ -15,9 +15,9 @@ use Rattle.board.specs.Held.{slot-of, blank}
 use Rattle.board.specs.Admit.{admitted-if}
 use Rattle.board.specs.Close.{given-up-with, closed-with}
 use Rattle.board.specs.Lent.{Lent, entries}
-use Rattle.search.specs.Seen.{bakes-seen}
-use Rattle.soundness.specs.Walk.{in-limits}
-use Rattle.calls.specs.Closings.{LentInOrder}
+use Rattle.search.specs.Inner.Seen.{bakes-seen}
+use Rattle.soundness.specs.Inner.Walk.{in-limits}
+use Rattle.calls.specs.Inner.Closings.{LentInOrder}
 
 -- a number, and another where it is 0
 infixr 20 _or-else_
