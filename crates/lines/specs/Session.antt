@@ -56,9 +56,9 @@ answer-admit s b i t w g =
     (refused s i (r .refusal))
 
 -- 'for each of those `G,slot,ticket,grade`'. The lines are here in the board's order; 01 leaves the order open, and compares them as a set.
-unfoldable pub printed-gone : ℕ → List Job → Bytes
-printed-gone k [] = []
-printed-gone k (r ∷ A) = printed letter-G (k ∷ r .ticket ∷ r .grade ∷ []) ++ printed-gone k A
+unfoldable pub printed-given-up : ℕ → List Job → Bytes
+printed-given-up k [] = []
+printed-given-up k (r ∷ A) = printed letter-G (k ∷ r .ticket ∷ r .grade ∷ []) ++ printed-given-up k A
 
 -- `B,slot,ticket,grade,number given up`, then the G lines
 unfoldable pub answer-close : Session → Board → (line : ℕ) → Answer
@@ -66,7 +66,7 @@ answer-close s b i =
     let r = closed b places-held in
     cond (eqb (r .refusal) 0)
     (record {
-      output = printed letter-B (slot-of b ∷ r .ticket ∷ r .grade ∷ r .expired ∷ []) ++ printed-gone (slot-of b) (given-up b);
+      output = printed letter-B (slot-of b ∷ r .ticket ∷ r .grade ∷ r .expired ∷ []) ++ printed-given-up (slot-of b) (given-up b);
       session = record { board = some (r .board); tally = fed (s .tally) (close-events b places-held) };
     })
     (refused s i (r .refusal))

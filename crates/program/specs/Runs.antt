@@ -7,7 +7,7 @@ use lib.ListN.{length}
 use Rattle.lines.specs.Bytes.{Bytes}
 use Rattle.lines.specs.Session.{output}
 use Rattle.lines.specs.Machine.{most-held, new-machine, after-bytes, printed-along}
-use Rattle.program.specs.declared.feed.Desk.{Desk}
+use Rattle.program.specs.declared.feed.State.{State}
 use Rattle.program.specs.declared.run.Ended.{Ended}
 use Rattle.program.specs.declared.run.Ended.the-variants.{Whole, ReadFailed, WriteFailed, TooLong}
 use Rattle.program.specs.declared.run.Outcome.{Outcome}
@@ -24,14 +24,14 @@ unfoldable pub buffer-length : ℕ
 buffer-length = 65_536
 
 -- A chunk taken in. All that it prints was written, or else a part.
-pub record ChunkTaken (desk : Desk) (chunk : Bytes) (r : Taken) : Type 0 where
-  pub good : GoodDay (r .desk .day)
-  pub held : r .desk .held .len ≤ most-held
-  pub number : r .desk .number ≤ desk .number + length chunk
+pub record ChunkTaken (state : State) (chunk : Bytes) (r : Taken) : Type 0 where
+  pub good : GoodDay (r .state .day)
+  pub held : r .state .held .len ≤ most-held
+  pub number : r .state .number ≤ state .number + length chunk
   pub few : r .written ≤ line-room * length chunk
-  pub machine : r .whole ≡ true → machine-of (r .desk) ≡ after-bytes (machine-of desk) chunk
-  pub all : r .whole ≡ true → r .written ≡ length (printed-along (machine-of desk) chunk)
-  pub part : r .whole ≡ false → r .written < length (printed-along (machine-of desk) chunk)
+  pub machine : r .whole ≡ true → machine-of (r .state) ≡ after-bytes (machine-of state) chunk
+  pub all : r .whole ≡ true → r .written ≡ length (printed-along (machine-of state) chunk)
+  pub part : r .whole ≡ false → r .written < length (printed-along (machine-of state) chunk)
 
 -- the bytes that a run has written when it ends so, of the bytes that it read
 unfoldable pub EndsSo : Ended → (written : ℕ) → (input : Bytes) → Type 0
@@ -46,8 +46,8 @@ pub record Ran (r : Outcome) : Type 0 where
   pub count : r .read ≡ length input
   pub ends : EndsSo (r .ended) (r .written) input
 
--- No more bytes, after so many read and written: it ended so, whatever bytes led to this desk and this number written.
-pub record Stopped (desk : Desk) (read written : ℕ) (r : Outcome) : Type 0 where
+-- No more bytes, after so many read and written: it ended so, whatever bytes led to this state and this number written.
+pub record Stopped (state : State) (read written : ℕ) (r : Outcome) : Type 0 where
   pub same : r .read ≡ read
-  pub ends : (input : Bytes) → machine-of desk ≡ after-bytes new-machine input → written ≡ length (printed-along new-machine input)
+  pub ends : (input : Bytes) → machine-of state ≡ after-bytes new-machine input → written ≡ length (printed-along new-machine input)
       → EndsSo (r .ended) (r .written) input

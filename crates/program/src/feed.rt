@@ -7,10 +7,10 @@ ghost use Rattle.lines.specs.Session.{printed-tally};
 ghost use Rattle.lines.specs.Machine.{most-held, printed-at-end};
 ghost use Rattle.printing.specs.Lines.{room};
 ghost use Rattle.program.specs.Inner.Days.{GoodDay, line-room, Given};
-ghost use Rattle.program.specs.Inner.Machines.{NewDesk, held-bytes, machine-of, used-bytes, LineEnds, hold-all, TakenIn, GoesOn, end-room, last-answer, PutAt};
+ghost use Rattle.program.specs.Inner.Machines.{NewState, held-bytes, machine-of, used-bytes, LineEnds, hold-all, TakenIn, GoesOn, end-room, last-answer, PutAt};
 use crate::session;
 use crate::session::Day;
-use crate::session::Said;
+use crate::session::DayAfter;
 use board::Board;
 use board::Tally;
 use printing::Line;
@@ -27,15 +27,15 @@ impl Held {
 }
 
 // What the program holds between two bytes: the day, the number of the line that is being read, and its bytes so far.
-pub struct Desk {
+pub struct State {
     pub day: Day,
     pub number: u64,
     pub held: Held,
 }
 
-// A part of a chunk taken in: the desk after it, how far the chunk is used, and where the output ends.
+// A part of a chunk taken in: the state after it, how far the chunk is used, and where the output ends.
 pub struct Fed {
-    pub desk: Desk,
+    pub state: State,
     pub used: usize,
     pub at: usize,
 }
@@ -43,9 +43,9 @@ pub struct Fed {
 // Bytes that are enough for what one line prints: a B line, and a G line for each job that a board holds.
 const LINE_ROOM: usize = (1 + Board::PLACES) * Line::ROOM;
 
-// The desk before the first byte.
-pub(crate) fn new_desk() -> Desk
-    ensures { λ r. ⌜ NewDesk r ⌝ }
+// The state before the first byte.
+pub(crate) fn new_state() -> State
+    ensures { λ r. ⌜ NewState r ⌝ }
 {
     let o = Board::open(0);
     let board = o.board;
@@ -59,7 +59,7 @@ pub(crate) fn new_desk() -> Desk
         bytes: [0; Held::ROOM],
         len: 0,
     };
-    Desk {
+    State {
         day,
         number: 1,
         held,
@@ -100,16 +100,16 @@ fn hold_part(h: Held, chunk: &[u8], from: usize, to: usize) -> Held
 }
 
 // Takes in the chunk's bytes from `from` on, line by line, while the buffer has room for what a line may print.
-pub(crate) fn feed(desk: Desk, chunk: &[u8], from: usize, out: &mut [u8], at: usize) -> Fed
-    requires { ⌜ GoodDay (desk .day) ⌝ }
-    requires { ⌜ (desk .held .len ≤ most-held) × (from ≤ length (now chunk)) × (at ≤ length (now out)) ⌝ }
-    requires { ⌜ desk .number + length (now chunk) < from + 2 ^ 63 ⌝ }
-    ensures { λ r. ⌜ TakenIn desk (now (chunk .entry)) from (now (out .entry)) at r (now (out .exit)) ⌝ }
+pub(crate) fn feed(state: State, chunk: &[u8], from: usize, out: &mut [u8], at: usize) -> Fed
+    requires { ⌜ GoodDay (state .day) ⌝ }
+    requires { ⌜ (state .held .len ≤ most-held) × (from ≤ length (now chunk)) × (at ≤ length (now out)) ⌝ }
+    requires { ⌜ state .number + length (now chunk) < from + 2 ^ 63 ⌝ }
+    ensures { λ r. ⌜ TakenIn state (now (chunk .entry)) from (now (out .entry)) at r (now (out .exit)) ⌝ }
     ensures { λ r. ⌜ GoesOn (now (chunk .entry)) from (now (out .entry)) at r ⌝ }
 {
-    let mut day = desk.day;
-    let mut number = desk.number;
-    let mut held = desk.held;
+    let mut day = state.day;
+    let mut number = state.number;
+    let mut held = state.held;
     let mut used = from;
     let mut end = at;
     while used < chunk.len() && end + LINE_ROOM <= out.len() {
@@ -119,36 +119,36 @@ pub(crate) fn feed(desk: Desk, chunk: &[u8], from: usize, out: &mut [u8], at: us
         if to < chunk.len() {
             let bytes = held.bytes;
             let len = held.len;
-            let said = session::answer_line(day, number, &bytes[..len], out, end);
-            day = said.day;
-            end = said.at;
+            let after = session::answer_line(day, number, &bytes[..len], out, end);
+            day = after.day;
+            end = after.at;
             number += 1;
             held.len = 0;
             used = to + 1;
         }
     }
-    let left = Desk { day, number, held };
+    let left = State { day, number, held };
     Fed {
-        desk: left,
+        state: left,
         used,
         at: end,
     }
 }
 
 // Answers a line that has begun.
-fn last_line(desk: Desk, out: &mut [u8], at: usize) -> Said
-    requires { ⌜ GoodDay (desk .day) ⌝ }
-    requires { ⌜ (desk .held .len ≤ most-held) × (at + line-room ≤ length (now out)) ⌝ }
-    ensures { λ r. ⌜ Given (last-answer (machine-of desk)) (now (out .entry)) at r (now (out .exit)) ⌝ }
+fn last_line(state: State, out: &mut [u8], at: usize) -> DayAfter
+    requires { ⌜ GoodDay (state .day) ⌝ }
+    requires { ⌜ (state .held .len ≤ most-held) × (at + line-room ≤ length (now out)) ⌝ }
+    ensures { λ r. ⌜ Given (last-answer (machine-of state)) (now (out .entry)) at r (now (out .exit)) ⌝ }
 {
-    let day = desk.day;
-    let held = desk.held;
+    let day = state.day;
+    let held = state.held;
     let len = held.len;
     if len == 0 {
-        return Said { day, at };
+        return DayAfter { day, at };
     }
     let bytes = held.bytes;
-    session::answer_line(day, desk.number, &bytes[..len], out, at)
+    session::answer_line(day, state.number, &bytes[..len], out, at)
 }
 
 // A count of the tally.
@@ -162,7 +162,7 @@ fn count_of(t: Tally, kind: usize, grade: usize) -> u64
 }
 
 // Prints the tally, a line for each of so many grades.
-fn say_tally(t: Tally, grades: usize, out: &mut [u8], at: usize) -> usize
+fn print_tally(t: Tally, grades: usize, out: &mut [u8], at: usize) -> usize
     requires { ⌜ (grades ≤ tally-grades) × (at + room * grades ≤ length (now out)) ⌝ }
     ensures { λ r. ⌜ PutAt (printed-tally grades 0 t) (now (out .entry)) at r (now (out .exit)) ⌝ }
 {
@@ -172,24 +172,24 @@ fn say_tally(t: Tally, grades: usize, out: &mut [u8], at: usize) -> usize
         let admitted = count_of(t, 0, g);
         let baked = count_of(t, 1, g);
         let expired = count_of(t, 2, g);
-        end = session::say(out, end, b'T', &[g as u64, admitted, baked, expired]);
+        end = session::print_at(out, end, b'T', &[g as u64, admitted, baked, expired]);
         g += 1;
     }
     end
 }
 
 // The end of input: a line that has begun is answered, and the tally of an open board is printed.
-pub(crate) fn finish(desk: Desk, out: &mut [u8], at: usize) -> usize
-    requires { ⌜ GoodDay (desk .day) ⌝ }
-    requires { ⌜ (desk .held .len ≤ most-held) × (at + end-room ≤ length (now out)) ⌝ }
-    ensures { λ r. ⌜ PutAt (printed-at-end (machine-of desk)) (now (out .entry)) at r (now (out .exit)) ⌝ }
+pub(crate) fn finish(state: State, out: &mut [u8], at: usize) -> usize
+    requires { ⌜ GoodDay (state .day) ⌝ }
+    requires { ⌜ (state .held .len ≤ most-held) × (at + end-room ≤ length (now out)) ⌝ }
+    ensures { λ r. ⌜ PutAt (printed-at-end (machine-of state)) (now (out .entry)) at r (now (out .exit)) ⌝ }
 {
-    let said = last_line(desk, out, at);
-    let day = said.day;
+    let after = last_line(state, out, at);
+    let day = after.day;
     if !day.opened {
-        return said.at;
+        return after.at;
     }
     let grades = Board::grades(day.board.depth) as usize;
     let tally = day.tally;
-    say_tally(tally, grades, out, said.at)
+    print_tally(tally, grades, out, after.at)
 }

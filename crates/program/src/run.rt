@@ -7,7 +7,7 @@ ghost use Rattle.program.specs.Inner.Days.{GoodDay};
 ghost use Rattle.program.specs.Runs.{buffer-length, ChunkTaken, Stopped, Ran};
 ghost use Rattle.program.specs.declared.run.Ended.the-variants.{WriteFailed, TooLong};
 use crate::feed;
-use crate::feed::Desk;
+use crate::feed::State;
 use libc::STDERR_FILENO;
 use libc::STDIN_FILENO;
 use libc::STDOUT_FILENO;
@@ -33,40 +33,40 @@ impl Outcome {
     pub const MOST_READ: u64 = 1 << 48;
 }
 
-// A chunk taken in: the desk after it, how many of the bytes that it prints the system took, and whether these are all.
+// A chunk taken in: the state after it, how many of the bytes that it prints the system took, and whether these are all.
 pub struct Taken {
-    pub desk: Desk,
+    pub state: State,
     pub written: u64,
     pub whole: bool,
 }
 
 // Takes in a whole chunk, and writes what it prints whenever the buffer has no room for a line more, and at its end.
-fn take_in(d: Desk, chunk: &[u8], out: &mut [u8]) -> Taken
+fn take_in(d: State, chunk: &[u8], out: &mut [u8]) -> Taken
     requires { ⌜ GoodDay (d .day) ⌝ }
     requires { ⌜ (d .held .len ≤ most-held) × (d .number + length (now chunk) < 2 ^ 63) ⌝ }
     requires { ⌜ (length (now chunk) ≤ buffer-length) × (length (now out) ≡ buffer-length) ⌝ }
     ensures { λ r. ⌜ ChunkTaken d (now (chunk .entry)) r ⌝ }
 {
-    let mut desk = d;
+    let mut state = d;
     let mut used: usize = 0;
     let mut written: u64 = 0;
     while used < chunk.len() {
-        let f = feed::feed(desk, chunk, used, out, 0);
-        desk = f.desk;
+        let f = feed::feed(state, chunk, used, out, 0);
+        state = f.state;
         used = f.used;
         let n = f.at;
         let put = streams::write_all(STDOUT_FILENO, &out[..n]);
         written += put as u64;
         if put < n {
             return Taken {
-                desk,
+                state,
                 written,
                 whole: false,
             };
         }
     }
     Taken {
-        desk,
+        state,
         written,
         whole: true,
     }
@@ -100,12 +100,12 @@ fn too_long(read: u64, written: u64) -> Outcome
 }
 
 // The end of input: writes what is left to print.
-fn finish(desk: Desk, out: &mut [u8], read: u64, written: u64) -> Outcome
-    requires { ⌜ GoodDay (desk .day) ⌝ }
-    requires { ⌜ (desk .held .len ≤ most-held) × (length (now out) ≡ buffer-length) × (written + buffer-length < 2 ^ 64) ⌝ }
-    ensures { λ r. ⌜ Stopped desk read written r ⌝ }
+fn finish(state: State, out: &mut [u8], read: u64, written: u64) -> Outcome
+    requires { ⌜ GoodDay (state .day) ⌝ }
+    requires { ⌜ (state .held .len ≤ most-held) × (length (now out) ≡ buffer-length) × (written + buffer-length < 2 ^ 64) ⌝ }
+    ensures { λ r. ⌜ Stopped state read written r ⌝ }
 {
-    let end = feed::finish(desk, out, 0);
+    let end = feed::finish(state, out, 0);
     let put = streams::write_all(STDOUT_FILENO, &out[..end]);
     let written = written + put as u64;
     if put < end {
@@ -119,10 +119,10 @@ fn finish(desk: Desk, out: &mut [u8], read: u64, written: u64) -> Outcome
 }
 
 // A read gave no bytes: it is the end of input, or it has failed, which is said, and then neither the line that has begun nor the tally is printed.
-fn stop(got: Got, desk: Desk, out: &mut [u8], read: u64, written: u64) -> Outcome
-    requires { ⌜ GoodDay (desk .day) ⌝ }
-    requires { ⌜ (desk .held .len ≤ most-held) × (length (now out) ≡ buffer-length) × (written + buffer-length < 2 ^ 64) ⌝ }
-    ensures { λ r. ⌜ Stopped desk read written r ⌝ }
+fn stop(got: Got, state: State, out: &mut [u8], read: u64, written: u64) -> Outcome
+    requires { ⌜ GoodDay (state .day) ⌝ }
+    requires { ⌜ (state .held .len ≤ most-held) × (length (now out) ≡ buffer-length) × (written + buffer-length < 2 ^ 64) ⌝ }
+    ensures { λ r. ⌜ Stopped state read written r ⌝ }
 {
     let Got::End = got else {
         os::fail(b"oven: cannot read standard input");
@@ -132,7 +132,7 @@ fn stop(got: Got, desk: Desk, out: &mut [u8], read: u64, written: u64) -> Outcom
             written,
         };
     };
-    finish(desk, out, read, written)
+    finish(state, out, read, written)
 }
 
 // Reads standard input to its end and writes what is printed, for the bytes of each read before the next read. Where a read or a write fails it goes
@@ -140,7 +140,7 @@ fn stop(got: Got, desk: Desk, out: &mut [u8], read: u64, written: u64) -> Outcom
 pub fn run() -> Outcome
     ensures { λ r. ⌜ Ran r ⌝ }
 {
-    let mut desk = feed::new_desk();
+    let mut state = feed::new_state();
     let mut chunk = io::large_buffer();
     let mut out = io::large_buffer();
     let mut read: u64 = 0;
@@ -148,10 +148,10 @@ pub fn run() -> Outcome
     while read < Outcome::MOST_READ {
         let got = streams::read_some(STDIN_FILENO, &mut chunk);
         let Got::Bytes(n) = got else {
-            return stop(got, desk, &mut out, read, written);
+            return stop(got, state, &mut out, read, written);
         };
-        let t = take_in(desk, &chunk[..n], &mut out);
-        desk = t.desk;
+        let t = take_in(state, &chunk[..n], &mut out);
+        state = t.state;
         read += n as u64;
         written += t.written;
         if !t.whole {

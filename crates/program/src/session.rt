@@ -12,6 +12,7 @@ ghost use Rattle.printing.specs.Lines.{line-numbers, room};
 ghost use Rattle.program.specs.Inner.Days.{session-of, GoodDay, line-room, Given, PutWithin, Answered, printed-each};
 use board::Board;
 use board::Laxity;
+use board::Slot;
 use board::Tally;
 use calls::admit;
 use calls::close;
@@ -25,13 +26,13 @@ pub struct Day {
 }
 
 // The day after a line, and where the line's output ends in the buffer.
-pub struct Said {
+pub struct DayAfter {
     pub day: Day,
     pub at: usize,
 }
 
 // Prints a line at `at`; where it ends.
-pub(crate) fn say(out: &mut [u8], at: usize, letter: u8, numbers: &[u64]) -> usize
+pub(crate) fn print_at(out: &mut [u8], at: usize, letter: u8, numbers: &[u64]) -> usize
     requires { ⌜ (length (now numbers) ≤ line-numbers) × (at + room ≤ length (now out)) ⌝ }
     ensures { λ r. ⌜ PutWithin room (printed letter (now (numbers .entry))) (now (out .entry)) at r (now (out .exit)) ⌝ }
 {
@@ -48,17 +49,17 @@ fn count(t: Tally, kind: u32, grade: u32) -> Tally
 }
 
 // A line that is refused: the day is as it was.
-fn refuse(day: Day, line: u64, number: u8, out: &mut [u8], at: usize) -> Said
+fn refuse(day: Day, line: u64, number: u8, out: &mut [u8], at: usize) -> DayAfter
     requires { ⌜ GoodDay day ⌝ }
     requires { ⌜ at + line-room ≤ length (now out) ⌝ }
     ensures { λ r. ⌜ Given (refused (session-of day) line number) (now (out .entry)) at r (now (out .exit)) ⌝ }
 {
-    let end = say(out, at, b'R', &[line, number as u64]);
-    Said { day, at: end }
+    let end = print_at(out, at, b'R', &[line, number as u64]);
+    DayAfter { day, at: end }
 }
 
 // A line that opens.
-fn open_line(day: Day, line: u64, depth: u32, out: &mut [u8], at: usize) -> Said
+fn open_line(day: Day, line: u64, depth: u32, out: &mut [u8], at: usize) -> DayAfter
     requires { ⌜ GoodDay day ⌝ }
     requires { ⌜ at + line-room ≤ length (now out) ⌝ }
     ensures { λ r. ⌜ Given (answer-open (session-of day) line depth) (now (out .entry)) at r (now (out .exit)) ⌝ }
@@ -67,7 +68,7 @@ fn open_line(day: Day, line: u64, depth: u32, out: &mut [u8], at: usize) -> Said
     if o.refusal != 0 {
         return refuse(day, line, o.refusal, out, at);
     }
-    let end = say(out, at, b'D', &[depth as u64]);
+    let end = print_at(out, at, b'D', &[depth as u64]);
     let board = o.board;
     let tally = day.tally;
     let next = Day {
@@ -75,7 +76,7 @@ fn open_line(day: Day, line: u64, depth: u32, out: &mut [u8], at: usize) -> Said
         board,
         tally,
     };
-    Said { day: next, at: end }
+    DayAfter { day: next, at: end }
 }
 
 // A line that admits.
@@ -87,7 +88,7 @@ fn admit_line(
     grade: u32,
     out: &mut [u8],
     at: usize,
-) -> Said
+) -> DayAfter
     requires { ⌜ GoodDay day ⌝ }
     requires { ⌜ day .opened ≡ true ⌝ }
     requires { ⌜ at + line-room ≤ length (now out) ⌝ }
@@ -98,7 +99,7 @@ fn admit_line(
     if a.refusal != 0 {
         return refuse(day, line, a.refusal, out, at);
     }
-    let end = say(out, at, b'A', &[ticket as u64, a.last.0 as u64]);
+    let end = print_at(out, at, b'A', &[ticket as u64, a.last.0 as u64]);
     let board = a.board;
     let old = day.tally;
     let tally = count(old, 0, grade);
@@ -107,25 +108,25 @@ fn admit_line(
         board,
         tally,
     };
-    Said { day: next, at: end }
+    DayAfter { day: next, at: end }
 }
 
 // Prints a line for each job given up; where the last one ends.
-fn say_gone(slot: u32, tickets: &[u32], grades: &[u8], out: &mut [u8], at: usize) -> usize
+fn print_given_up(slot: Slot, tickets: &[u32], grades: &[u8], out: &mut [u8], at: usize) -> usize
     requires { ⌜ length (now grades) ≡ length (now tickets) ⌝ }
     requires { ⌜ at + length (now tickets) * room ≤ length (now out) ⌝ }
     ensures { λ r.
-        let lines = printed-each slot (now (tickets .entry)) (now (grades .entry)) in
+        let lines = printed-each (slot .0) (now (tickets .entry)) (now (grades .entry)) in
         ⌜ PutWithin (length (now (tickets .entry)) * room) lines (now (out .entry)) at r (now (out .exit)) ⌝ }
 {
     let mut end = at;
     let mut i: usize = 0;
     while i < tickets.len() {
-        end = say(
+        end = print_at(
             out,
             end,
             b'G',
-            &[slot as u64, tickets[i] as u64, grades[i] as u64],
+            &[slot.0 as u64, tickets[i] as u64, grades[i] as u64],
         );
         i += 1;
     }
@@ -143,7 +144,7 @@ fn count_baked(t: Tally, ticket: u32, grade: u8) -> Tally
 }
 
 // Counts the jobs given up.
-fn count_gone(t: Tally, grades: &[u8]) -> Tally
+fn count_given_up(t: Tally, grades: &[u8]) -> Tally
     ensures { λ r. ⌜ r ≡ fed t (map (event given-up-kind) (now (grades .entry))) ⌝ }
 {
     let mut tally = t;
@@ -156,7 +157,7 @@ fn count_gone(t: Tally, grades: &[u8]) -> Tally
 }
 
 // A line that closes.
-fn close_line(day: Day, line: u64, out: &mut [u8], at: usize) -> Said
+fn close_line(day: Day, line: u64, out: &mut [u8], at: usize) -> DayAfter
     requires { ⌜ GoodDay day ⌝ }
     requires { ⌜ day .opened ≡ true ⌝ }
     requires { ⌜ at + line-room ≤ length (now out) ⌝ }
@@ -171,7 +172,7 @@ fn close_line(day: Day, line: u64, out: &mut [u8], at: usize) -> Said
         return refuse(day, line, c.refusal, out, at);
     }
     let n = c.expired as usize;
-    let mid = say(
+    let mid = print_at(
         out,
         at,
         b'B',
@@ -182,21 +183,21 @@ fn close_line(day: Day, line: u64, out: &mut [u8], at: usize) -> Said
             c.expired as u64,
         ],
     );
-    let end = say_gone(b.slot.0, &tickets[..n], &grades[..n], out, mid);
+    let end = print_given_up(b.slot, &tickets[..n], &grades[..n], out, mid);
     let old = day.tally;
     let baked = count_baked(old, c.ticket, c.grade);
-    let tally = count_gone(baked, &grades[..n]);
+    let tally = count_given_up(baked, &grades[..n]);
     let board = c.board;
     let next = Day {
         opened: true,
         board,
         tally,
     };
-    Said { day: next, at: end }
+    DayAfter { day: next, at: end }
 }
 
 // Answers a line, the line end not among its bytes.
-pub(crate) fn answer_line(day: Day, number: u64, line: &[u8], out: &mut [u8], at: usize) -> Said
+pub(crate) fn answer_line(day: Day, number: u64, line: &[u8], out: &mut [u8], at: usize) -> DayAfter
     requires { ⌜ GoodDay day ⌝ }
     requires { ⌜ at + line-room ≤ length (now out) ⌝ }
     ensures { λ r. ⌜ Answered day number (now (line .entry)) (now (out .entry)) at r (now (out .exit)) ⌝ }

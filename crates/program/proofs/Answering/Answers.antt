@@ -25,17 +25,17 @@ use Rattle.lines.specs.Session.{Session, Answer, refused, answer-open, answer-a
 use Rattle.lines.proofs.NeverMet.MayMeet.{opened-shallow}
 use Rattle.printing.specs.Lines.{room}
 use Rattle.program.specs.declared.session.Day.{Day}
-use Rattle.program.specs.declared.session.Said.{Said}
+use Rattle.program.specs.declared.session.DayAfter.{DayAfter}
 use Rattle.program.specs.Inner.Days.{session-of, GoodDay, line-room, Given, PutWithin}
 
 -- a day with an open board, and where the output ends
-abbrev pub said : Board → Tally → ℕ → Said
-said b t end = record { day = record { opened = true; board = b; tally = t }; at = end }
+abbrev pub day-after : Board → Tally → ℕ → DayAfter
+day-after b t end = record { day = record { opened = true; board = b; tally = t }; at = end }
 
 abbrev pub open-session : Board → Tally → Session
 open-session b t = record { board = some b; tally = t }
 
-pub given-as : {a b : Answer} {out : Bytes} {at : ℕ} {r : Said} {out' : Bytes} → a ≡ b → Given b out at r out' → Given a out at r out'
+pub given-as : {a b : Answer} {out : Bytes} {at : ℕ} {r : DayAfter} {out' : Bytes} → a ≡ b → Given b out at r out' → Given a out at r out'
 given-as {a} {b} {out} {at} {r} {out'} e g = subst (λ (x : Answer). Given x out at r out') (sym e) g
 
 module _ {out : Bytes} {at end : ℕ} {out' : Bytes} where
@@ -46,7 +46,7 @@ module _ {out : Bytes} {at end : ℕ} {out' : Bytes} where
 
   -- one line printed, and a board left open
   line-given : (bs : Bytes) (b : Board) (t : Tally) → sound b ≡ true → PutWithin room bs out at end out'
-      → Given (record { output = bs; session = open-session b t }) out at (said b t end) out'
+      → Given (record { output = bs; session = open-session b t }) out at (day-after b t end) out'
   unfolding session-of GoodDay line-room
   line-given bs b t s p = record { good = λ o. s; session = refl; end = p .end; within = omega (arith, p .within); bytes = p .bytes }
 
@@ -60,7 +60,7 @@ module _ (day : Day) (i d : ℕ) (o : Opened) (e : o ≡ opened d) where
   open-answer h = rw (← e) (cond-true _ _ _ (eq-eqb (o .refusal) 0 h))
 
   pub open-given : {out : Bytes} {at end : ℕ} {out' : Bytes} → o .refusal ≡ 0 → PutWithin room (printed letter-D (d ∷ [])) out at end out'
-      → Given (answer-open (session-of day) i d) out at (said (o .board) (day .tally) end) out'
+      → Given (answer-open (session-of day) i d) out at (day-after (o .board) (day .tally) end) out'
   open-given h p = given-as (open-answer h) (line-given _ (o .board) (day .tally) board-sound p)
     where
       board-sound : sound (o .board) ≡ true
@@ -86,5 +86,5 @@ module _ (day : Day) (i t w g : ℕ) (a : Admitted) (e : a ≡ admitted (day .bo
 
   pub admit-given : {out : Bytes} {at end : ℕ} {out' : Bytes} (y : Tally) → sound (day .board) ≡ true → a .refusal ≡ 0
       → PutWithin room (printed letter-A (t ∷ a .last .0 ∷ [])) out at end out' → y ≡ counted (day .tally) admitted-kind g .tally
-      → Given (answer-admit (session-of day) (day .board) i t w g) out at (said (a .board) y end) out'
+      → Given (answer-admit (session-of day) (day .board) i t w g) out at (day-after (a .board) y end) out'
   admit-given y s h p c = given-as (admit-answer h) (rw (c ∙ sym (one-fed h)) (line-given _ (a .board) _ (rw e (admitted-sound (day .board) t w g s)) p))

@@ -20,12 +20,12 @@ use Rattle.board.proofs.Calls.SoundAfter.{closed-sound}
 use Rattle.board.proofs.Tallies.Fed.{let-through, fed-append}
 use Rattle.lines.specs.Bytes.{Bytes, letter-B}
 use Rattle.lines.specs.Printing.{printed}
-use Rattle.lines.specs.Session.{refused, printed-gone, answer-close}
+use Rattle.lines.specs.Session.{refused, printed-given-up, answer-close}
 use Rattle.printing.specs.Lines.{room}
 use Rattle.printing.proofs.Puts.{put-append}
 use Rattle.program.specs.declared.session.Day.{Day}
 use Rattle.program.specs.Inner.Days.{session-of, GoodDay, line-room, Given, PutWithin, printed-each}
-use Rattle.program.proofs.Answering.Answers.{said, open-session, given-as}
+use Rattle.program.proofs.Answering.Answers.{day-after, open-session, given-as}
 use Rattle.program.proofs.Answering.Entries.{few-given-up, printed-jobs}
 
 abbrev first-line : Board → Closed → Bytes
@@ -39,7 +39,7 @@ module _ (day : Day) (i : ℕ) (c : Closed) (e : c ≡ closed (day .board) place
   close-answer : c .refusal ≡ 0
       → answer-close (session-of day) (day .board) i
       ≡ record {
-        output = first-line (day .board) c ++ printed-gone (slot-of (day .board)) (given-up (day .board));
+        output = first-line (day .board) c ++ printed-given-up (slot-of (day .board)) (given-up (day .board));
         session = open-session (c .board) (fed (day .tally) (close-events (day .board) places-held));
       }
   unfolding answer-close session-of
@@ -62,17 +62,17 @@ module _ (day : Day) (i : ℕ) (c : Closed) (e : c ≡ closed (day .board) place
       → PutWithin room (first-line (day .board) c) out at mid out₁
       → PutWithin (length T * room) (printed-each (slot-of (day .board)) T G) out₁ mid end out'
       → y ≡ fed (fed (day .tally) (baked-events (c .ticket) (c .grade))) (map (event given-up-kind) G)
-      → Given (answer-close (session-of day) (day .board) i) out at (said (c .board) y end) out'
+      → Given (answer-close (session-of day) (day .board) i) out at (day-after (c .board) y end) out'
   unfolding session-of GoodDay line-room
   close-given {out} {at} {mid} {end} {out₁} {out'} T G y s h start p q l m z =
       let k = slot-of (day .board) in
       let A = given-up (day .board) in
-      let gone : printed-each k T G ≡ printed-gone k A = rw (p, q) (printed-jobs k A) in
+      let gone : printed-each k T G ≡ printed-given-up k A = rw (p, q) (printed-jobs k A) in
       given-as (close-answer h)
       (record {
         good = λ o. rw e (closed-sound (day .board) places-held s);
         session = ap (open-session (c .board)) (z ∙ all-fed h G q);
-        end = omega (arith, l .end, m .end, ap length gone, length-append (first-line (day .board) c) (printed-gone k A));
+        end = omega (arith, l .end, m .end, ap length gone, length-append (first-line (day .board) c) (printed-given-up k A));
         within = omega (arith, l .within, m .within, ap length p, length-map A (λ (r : Job). r .ticket), few-given-up (day .board) s);
-        bytes = m .bytes ∙ rw (gone, l .bytes, l .end) (put-append out at (first-line (day .board) c) (printed-gone k A) start);
+        bytes = m .bytes ∙ rw (gone, l .bytes, l .end) (put-append out at (first-line (day .board) c) (printed-given-up k A) start);
       })

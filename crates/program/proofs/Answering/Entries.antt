@@ -24,7 +24,7 @@ use Rattle.board.proofs.Soundness.Apart.{facts}
 use Rattle.board.proofs.Soundness.HeldCount.{held-count}
 use Rattle.lines.specs.Bytes.{letter-G}
 use Rattle.lines.specs.Printing.{printed}
-use Rattle.lines.specs.Session.{printed-gone}
+use Rattle.lines.specs.Session.{printed-given-up}
 use Rattle.calls.specs.Inner.Closings.{InOrder, LentInOrder, ClosedInOrder}
 use Rattle.program.specs.Inner.Days.{printed-each}
 
@@ -49,8 +49,8 @@ module _ (k : ℕ) (G : List ℕ) (i : ℕ) (t : Tally) where
   unfolding fed
   no-event h = rw (drop-of-length-le G h)
 
-pub printed-jobs : (k : ℕ) (A : List Job) → printed-each k (map (λ (r : Job). r .ticket) A) (map (λ (r : Job). r .grade) A) ≡ printed-gone k A
-unfolding printed-each printed-gone
+pub printed-jobs : (k : ℕ) (A : List Job) → printed-each k (map (λ (r : Job). r .ticket) A) (map (λ (r : Job). r .grade) A) ≡ printed-given-up k A
+unfolding printed-each printed-given-up
 printed-jobs k [] = refl
 printed-jobs k (r ∷ A) = ap (λ bs. printed letter-G (k ∷ r .ticket ∷ r .grade ∷ []) ++ bs) (printed-jobs k A)
 

@@ -13,10 +13,10 @@ use Rattle.printing.proofs.Placed.{whole-placed, whole-end}
 use Rattle.program.specs.Inner.Days.{PutWithin}
 
 -- a line made and put
-pub line-said : (out : Bytes) (at : ℕ) (bs : Bytes) (l : Line) (end : ℕ) (out' : Bytes) → at + room ≤ length out → l ≡ line-of bs → l .len ≤ room
+pub line-printed : (out : Bytes) (at : ℕ) (bs : Bytes) (l : Line) (end : ℕ) (out' : Bytes) → at + room ≤ length out → l ≡ line-of bs → l .len ≤ room
     → end ≡ end-after out at l → out' ≡ with-line out at l → PutWithin room bs out at end out'
 unfolding line-of
-line-said out at bs l end out' fits e h p q =
+line-printed out at bs l end out' fits e h p q =
     let short : length bs ≤ room = rw e at h in
     let end-is : end ≡ at + length bs = rw e at p ∙ whole-end out at bs short (omega arith) in
     record { end = end-is; within = omega arith; bytes = rw e at q ∙ whole-placed out at bs short (omega arith) }

@@ -9,9 +9,9 @@ use Rattle.lines.specs.Bytes.{Bytes, line-end}
 use Rattle.lines.specs.Session.{Session, answer}
 use Rattle.lines.specs.Machine.{most-held, after-bytes, printed-along}
 use Rattle.printing.specs.Lines.{put}
-use Rattle.program.specs.declared.session.Said.{Said}
+use Rattle.program.specs.declared.session.DayAfter.{DayAfter}
 use Rattle.program.specs.declared.feed.Held.{Held}
-use Rattle.program.specs.declared.feed.Desk.{Desk}
+use Rattle.program.specs.declared.feed.State.{State}
 use Rattle.program.specs.Inner.Days.{session-of, GoodDay, line-room, Answered}
 use Rattle.program.specs.Inner.Machines.{held-bytes, machine-of, used-bytes, LineEnds, hold-all, TakenIn}
 use Rattle.program.proofs.Feeding.Along.{part-after, part-printed, line-after, line-printed}
@@ -19,11 +19,11 @@ use Rattle.program.proofs.Feeding.Buffers.{put-none}
 use Rattle.program.proofs.Feeding.Parts.{part-last}
 
 module _
-    (k : Desk) (s : Bytes) (from to : ℕ) (out : Bytes) (at : ℕ) (l : LineEnds s from to)
+    (k : State) (s : Bytes) (from to : ℕ) (out : Bytes) (at : ℕ) (l : LineEnds s from to)
     (h : Held) (e : held-bytes h ≡ hold-all (held-bytes (k .held)) (used-bytes s from to))
   where
     pub taken-part : GoodDay (k .day) → h .len ≤ most-held → at ≤ length out
-        → TakenIn k s from out at (record { desk = record { day = k .day; number = k .number; held = h }; used = to; at = at }) out
+        → TakenIn k s from out at (record { state = record { day = k .day; number = k .number; held = h }; used = to; at = at }) out
     unfolding machine-of line-room
     taken-part g n f =
         let p : printed-along (machine-of k) (used-bytes s from to) ≡ [] =
@@ -44,7 +44,7 @@ module _
         }
 
     -- its end is in the chunk, and it is answered
-    module _ (m : to < length s) (r : Said) (out' : Bytes) (a : Answered (k .day) (k .number) (held-bytes h) out at r out') where
+    module _ (m : to < length s) (r : DayAfter) (out' : Bytes) (a : Answered (k .day) (k .number) (held-bytes h) out at r out') where
       used-line : used-bytes s from (to + 1) ≡ used-bytes s from to ++ (line-end ∷ [])
       used-line = rw add-one (part-last s from to (l .forward) m) ∙ ap (λ (b : ℕ). used-bytes s from to ++ (b ∷ [])) (l .ended m)
 
@@ -56,7 +56,7 @@ module _
           ∙ ap (λ (x : Bytes). answer (session-of (k .day)) (k .number) x .output) (sym e)
 
       pub taken-line : (bytes : Bytes) → at + line-room ≤ length out
-          → TakenIn k s from out at (record { desk = record { day = r .day; number = k .number + 1; held = record { bytes = bytes; len = 0 } }; used = to + 1; at = r .at }) out'
+          → TakenIn k s from out at (record { state = record { day = r .day; number = k .number + 1; held = record { bytes = bytes; len = 0 } }; used = to + 1; at = r .at }) out'
       unfolding machine-of held-bytes line-room
       taken-line bytes f =
           record {

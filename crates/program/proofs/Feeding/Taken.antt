@@ -9,7 +9,7 @@ use Rattle.lists.proofs.Tests.{cmp}
 use Rattle.lines.specs.Bytes.{Bytes}
 use Rattle.lines.specs.Machine.{most-held, Machine, after-bytes, printed-along}
 use Rattle.printing.specs.Lines.{put}
-use Rattle.program.specs.declared.feed.Desk.{Desk}
+use Rattle.program.specs.declared.feed.State.{State}
 use Rattle.program.specs.declared.feed.Fed.{Fed}
 use Rattle.program.specs.Inner.Days.{GoodDay, line-room}
 use Rattle.program.specs.Inner.Machines.{machine-of, used-bytes, TakenIn, GoesOn}
@@ -18,8 +18,8 @@ use Rattle.program.proofs.Feeding.Along.{after-append, printed-append}
 use Rattle.program.proofs.Feeding.Buffers.{put-none, put-length}
 use Rattle.program.proofs.Feeding.Parts.{part-none, part-join}
 
-pub taken-none : (k : Desk) (s : Bytes) (from : ℕ) (out : Bytes) (at : ℕ) → GoodDay (k .day) → k .held .len ≤ most-held → from ≤ length s → at ≤ length out
-    → TakenIn k s from out at (record { desk = k; used = from; at = at }) out
+pub taken-none : (k : State) (s : Bytes) (from : ℕ) (out : Bytes) (at : ℕ) → GoodDay (k .day) → k .held .len ≤ most-held → from ≤ length s → at ≤ length out
+    → TakenIn k s from out at (record { state = k; used = from; at = at }) out
 unfolding after-bytes printed-along line-room
 taken-none k s from out at g h l f =
     let e = part-none s from in
@@ -36,16 +36,16 @@ taken-none k s from out at g h l f =
       bytes = rw e (put-none out at);
     }
 
-module _ {k : Desk} {s : Bytes} {from : ℕ} {out : Bytes} {at : ℕ} {f : Fed} {mid : Bytes} (a : TakenIn k s from out at f mid) where
+module _ {k : State} {s : Bytes} {from : ℕ} {out : Bytes} {at : ℕ} {f : Fed} {mid : Bytes} (a : TakenIn k s from out at f mid) where
   abbrev first : Bytes
   first = printed-along (machine-of k) (used-bytes s from (f .used))
 
   pub kept-length : length mid ≡ length out
   kept-length = ap length (a .bytes) ∙ put-length out at first (omega (arith, a .end, a .fits))
 
-  module _ {g : Fed} {last : Bytes} (b : TakenIn (f .desk) s (f .used) mid (f .at) g last) where
+  module _ {g : Fed} {last : Bytes} (b : TakenIn (f .state) s (f .used) mid (f .at) g last) where
     abbrev second : Bytes
-    second = printed-along (machine-of (f .desk)) (used-bytes s (f .used) (g .used))
+    second = printed-along (machine-of (f .state)) (used-bytes s (f .used) (g .used))
 
     parts : used-bytes s from (f .used) ++ used-bytes s (f .used) (g .used) ≡ used-bytes s from (g .used)
     parts = part-join s from (f .used) (g .used) (a .forward) (b .forward) (b .inside)

@@ -8,7 +8,7 @@ use lib.ListN.{length, length-append}
 use Rattle.lists.proofs.Tests.{never}
 use Rattle.lines.specs.Bytes.{Bytes}
 use Rattle.lines.specs.Machine.{most-held, Machine, after-bytes, printed-along}
-use Rattle.program.specs.declared.feed.Desk.{Desk}
+use Rattle.program.specs.declared.feed.State.{State}
 use Rattle.program.specs.declared.feed.Fed.{Fed}
 use Rattle.program.specs.Inner.Days.{GoodDay, line-room}
 use Rattle.program.specs.Inner.Machines.{machine-of, used-bytes, TakenIn}
@@ -17,27 +17,27 @@ use Rattle.program.proofs.Feeding.Along.{after-append, printed-append}
 use Rattle.program.proofs.Feeding.Parts.{part-none, part-join, part-whole}
 
 -- so many bytes of the chunk are taken in, and all that they print is written
-pub record Along (first : Desk) (chunk : Bytes) (desk : Desk) (used written : ℕ) : Type 0 where
-  pub good : GoodDay (desk .day)
-  pub held : desk .held .len ≤ most-held
+pub record Along (first : State) (chunk : Bytes) (state : State) (used written : ℕ) : Type 0 where
+  pub good : GoodDay (state .day)
+  pub held : state .held .len ≤ most-held
   pub inside : used ≤ length chunk
-  pub number : desk .number ≤ first .number + used
-  pub machine : machine-of desk ≡ after-bytes (machine-of first) (used-bytes chunk 0 used)
+  pub number : state .number ≤ first .number + used
+  pub machine : machine-of state ≡ after-bytes (machine-of first) (used-bytes chunk 0 used)
   pub all : written ≡ length (printed-along (machine-of first) (used-bytes chunk 0 used))
   pub few : written ≤ line-room * used
 
-pub along-none : (first : Desk) (chunk : Bytes) → GoodDay (first .day) → first .held .len ≤ most-held → Along first chunk first 0 0
+pub along-none : (first : State) (chunk : Bytes) → GoodDay (first .day) → first .held .len ≤ most-held → Along first chunk first 0 0
 unfolding after-bytes printed-along line-room
 along-none first chunk g h =
     let e = part-none chunk 0 in
     record { good = g; held = h; inside = omega arith; number = omega arith; machine = rw e; all = rw e; few = omega arith }
 
-module _ {first : Desk} {chunk : Bytes} {desk : Desk} {used written : ℕ} (a : Along first chunk desk used written) where
+module _ {first : State} {chunk : Bytes} {state : State} {used written : ℕ} (a : Along first chunk state used written) where
   abbrev m : Machine
   m = machine-of first
 
   -- all bytes are taken in
-  pub along-whole : length chunk ≤ used → ChunkTaken first chunk (record { desk = desk; written = written; whole = true })
+  pub along-whole : length chunk ≤ used → ChunkTaken first chunk (record { state = state; written = written; whole = true })
   unfolding line-room
   along-whole h =
       let e : used-bytes chunk 0 used ≡ chunk = ap (used-bytes chunk 0) (omega (arith, a .inside)) ∙ part-whole chunk in
@@ -51,7 +51,7 @@ module _ {first : Desk} {chunk : Bytes} {desk : Desk} {used written : ℕ} (a : 
         part = λ z. never refl z;
       }
 
-  module _ {f : Fed} {out out' : Bytes} (t : TakenIn desk chunk used out 0 f out') where
+  module _ {f : Fed} {out out' : Bytes} (t : TakenIn state chunk used out 0 f out') where
     abbrev one : Bytes
     one = used-bytes chunk 0 used
 
@@ -62,7 +62,7 @@ module _ {first : Desk} {chunk : Bytes} {desk : Desk} {used written : ℕ} (a : 
     joined = part-join chunk 0 used (f .used) (omega arith) (t .forward) (t .inside)
 
     -- a part more
-    pub along-more : Along first chunk (f .desk) (f .used) (written + f .at)
+    pub along-more : Along first chunk (f .state) (f .used) (written + f .at)
     unfolding line-room
     along-more =
         record {
@@ -87,7 +87,7 @@ module _ {first : Desk} {chunk : Bytes} {desk : Desk} {used written : ℕ} (a : 
         }
 
     -- of what it prints, some is not written
-    pub along-part : (put : ℕ) → put < f .at → ChunkTaken first chunk (record { desk = f .desk; written = written + put; whole = false })
+    pub along-part : (put : ℕ) → put < f .at → ChunkTaken first chunk (record { state = f .state; written = written + put; whole = false })
     unfolding line-room
     along-part put h =
         let n = along-more in

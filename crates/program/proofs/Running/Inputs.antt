@@ -7,28 +7,28 @@ use native.Mathlib.Omega.{arith}
 use lib.ListN.{length, length-append}
 use Rattle.lines.specs.Bytes.{Bytes}
 use Rattle.lines.specs.Machine.{most-held, Machine, new-machine, after-bytes, printed-along}
-use Rattle.program.specs.declared.feed.Desk.{Desk}
+use Rattle.program.specs.declared.feed.State.{State}
 use Rattle.program.specs.declared.run.Ended.the-variants.{WriteFailed, TooLong}
 use Rattle.program.specs.declared.run.Outcome.{Outcome}
 use Rattle.program.specs.declared.run.Taken.{Taken}
 use Rattle.program.specs.Inner.Days.{GoodDay, line-room}
-use Rattle.program.specs.Inner.Machines.{machine-of, NewDesk}
+use Rattle.program.specs.Inner.Machines.{machine-of, NewState}
 use Rattle.program.specs.Runs.{most-read, ChunkTaken, EndsSo, Ran, Stopped}
 use Rattle.program.proofs.Feeding.Along.{after-append, printed-append}
 use Rattle.program.proofs.Running.Whole.{output-length}
 
 -- so many bytes are read, and all that they print is written
-pub record SoFar (desk : Desk) (read written : ℕ) : Type 0 where
+pub record SoFar (state : State) (read written : ℕ) : Type 0 where
   pub input : Bytes
   pub count : read ≡ length input
-  pub good : GoodDay (desk .day)
-  pub held : desk .held .len ≤ most-held
-  pub number : desk .number ≤ 1 + read
-  pub machine : machine-of desk ≡ after-bytes new-machine input
+  pub good : GoodDay (state .day)
+  pub held : state .held .len ≤ most-held
+  pub number : state .number ≤ 1 + read
+  pub machine : machine-of state ≡ after-bytes new-machine input
   pub all : written ≡ length (printed-along new-machine input)
   pub few : written ≤ line-room * read
 
-pub nothing-read : {k : Desk} → NewDesk k → SoFar k 0 0
+pub nothing-read : {k : State} → NewState k → SoFar k 0 0
 unfolding after-bytes printed-along line-room
 nothing-read n =
     record {
@@ -42,15 +42,15 @@ nothing-read n =
       few = omega arith;
     }
 
-module _ {desk : Desk} {read written : ℕ} (s : SoFar desk read written) where
-  pub stopped : {r : Outcome} → Stopped desk read written r → Ran r
+module _ {state : State} {read written : ℕ} (s : SoFar state read written) where
+  pub stopped : {r : Outcome} → Stopped state read written r → Ran r
   stopped e = record { input = s .input; count = e .same ∙ s .count; ends = e .ends (s .input) (s .machine) (s .all) }
 
   pub too-long : most-read ≤ read → Ran (record { ended = TooLong; read = read; written = written })
   unfolding EndsSo
   too-long h = record { input = s .input; count = s .count; ends = (omega (arith, s .count), s .all) }
 
-  module _ {bytes : Bytes} {n : ℕ} (e : length bytes ≡ n) {t : Taken} (c : ChunkTaken desk bytes t) where
+  module _ {bytes : Bytes} {n : ℕ} (e : length bytes ≡ n) {t : Taken} (c : ChunkTaken state bytes t) where
     abbrev both : Bytes
     both = s .input ++ bytes
 
@@ -58,7 +58,7 @@ module _ {desk : Desk} {read written : ℕ} (s : SoFar desk read written) where
     sum = omega (arith, s .count, length-append (s .input) bytes)
 
     -- what both print is what the input prints, and then the chunk
-    printed : length (printed-along new-machine both) ≡ written + length (printed-along (machine-of desk) bytes)
+    printed : length (printed-along new-machine both) ≡ written + length (printed-along (machine-of state) bytes)
     printed =
         let m = after-bytes new-machine (s .input) in
         omega (
@@ -69,7 +69,7 @@ module _ {desk : Desk} {read written : ℕ} (s : SoFar desk read written) where
           ap (λ (k : Machine). length (printed-along k bytes)) (s .machine),
         )
 
-    pub chunk-more : t .whole ≡ true → SoFar (t .desk) (read + n) (written + t .written)
+    pub chunk-more : t .whole ≡ true → SoFar (t .state) (read + n) (written + t .written)
     unfolding line-room
     chunk-more h =
         record {

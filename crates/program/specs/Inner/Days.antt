@@ -12,7 +12,7 @@ use Rattle.lines.specs.Printing.{printed}
 use Rattle.lines.specs.Session.{Session, Answer, answer}
 use Rattle.printing.specs.Lines.{room, put}
 use Rattle.program.specs.declared.session.Day.{Day}
-use Rattle.program.specs.declared.session.Said.{Said}
+use Rattle.program.specs.declared.session.DayAfter.{DayAfter}
 
 unfoldable pub session-of : Day → Session
 session-of d = record { board = cond (d .opened) (some (d .board)) none; tally = d .tally }
@@ -33,7 +33,7 @@ pub record PutWithin (most : ℕ) (bs out : Bytes) (at r : ℕ) (out' : Bytes) :
   pub bytes : out' ≡ put out at bs
 
 -- an answer given: the day after it is the answer's session, and the answer's bytes stand at `at` in the buffer
-pub record Given (a : Answer) (out : Bytes) (at : ℕ) (r : Said) (out' : Bytes) : Type 0 where
+pub record Given (a : Answer) (out : Bytes) (at : ℕ) (r : DayAfter) (out' : Bytes) : Type 0 where
   pub good : GoodDay (r .day)
   pub session : session-of (r .day) ≡ a .session
   pub end : r .at ≡ at + length (a .output)
@@ -41,7 +41,7 @@ pub record Given (a : Answer) (out : Bytes) (at : ℕ) (r : Said) (out' : Bytes)
   pub bytes : out' ≡ put out at (a .output)
 
 -- a line answered: the session is the definition's, and so are the bytes
-abbrev pub Answered : (day : Day) (number : ℕ) (line out : Bytes) (at : ℕ) (r : Said) (out' : Bytes) → Type 0
+abbrev pub Answered : (day : Day) (number : ℕ) (line out : Bytes) (at : ℕ) (r : DayAfter) (out' : Bytes) → Type 0
 Answered day number line out at r out' = Given (answer (session-of day) number line) out at r out'
 
 -- The parts of a closing, which find the jobs given up in the lists that a closing fills.

@@ -12,7 +12,7 @@ use Rattle.lines.specs.Session.{Answer, answer}
 use Rattle.lines.specs.Machine.{Machine, new-machine, hold, most-held, after-bytes, printed-along}
 use Rattle.printing.specs.Lines.{room, put}
 use Rattle.program.specs.declared.feed.Held.{Held}
-use Rattle.program.specs.declared.feed.Desk.{Desk}
+use Rattle.program.specs.declared.feed.State.{State}
 use Rattle.program.specs.declared.feed.Fed.{Fed}
 use Rattle.program.specs.Inner.Days.{session-of, GoodDay, line-room}
 
@@ -20,11 +20,11 @@ use Rattle.program.specs.Inner.Days.{session-of, GoodDay, line-room}
 unfoldable pub held-bytes : Held → Bytes
 held-bytes h = take (h .len) (h .bytes)
 
-unfoldable pub machine-of : Desk → Machine
+unfoldable pub machine-of : State → Machine
 machine-of k = record { session = session-of (k .day); number = k .number; held = held-bytes (k .held) }
 
--- the desk before the first byte
-pub record NewDesk (k : Desk) : Type 0 where
+-- the state before the first byte
+pub record NewState (k : State) : Type 0 where
   pub good : GoodDay (k .day)
   pub machine : machine-of k ≡ new-machine
   pub number : k .number ≡ 1
@@ -47,17 +47,17 @@ hold-all l [] = l
 hold-all l (b ∷ bs) = hold-all (hold b l) bs
 
 -- a part of a chunk taken in: the machine is the definition's, and so are the bytes printed, put at `at` in the buffer
-pub record TakenIn (desk : Desk) (chunk : Bytes) (from : ℕ) (out : Bytes) (at : ℕ) (r : Fed) (out' : Bytes) : Type 0 where
-  pub good : GoodDay (r .desk .day)
-  pub held : r .desk .held .len ≤ most-held
+pub record TakenIn (state : State) (chunk : Bytes) (from : ℕ) (out : Bytes) (at : ℕ) (r : Fed) (out' : Bytes) : Type 0 where
+  pub good : GoodDay (r .state .day)
+  pub held : r .state .held .len ≤ most-held
   pub forward : from ≤ r .used
   pub inside : r .used ≤ length chunk
-  pub number : r .desk .number + from ≤ desk .number + r .used
-  pub machine : machine-of (r .desk) ≡ after-bytes (machine-of desk) (used-bytes chunk from (r .used))
-  pub end : r .at ≡ at + length (printed-along (machine-of desk) (used-bytes chunk from (r .used)))
+  pub number : r .state .number + from ≤ state .number + r .used
+  pub machine : machine-of (r .state) ≡ after-bytes (machine-of state) (used-bytes chunk from (r .used))
+  pub end : r .at ≡ at + length (printed-along (machine-of state) (used-bytes chunk from (r .used)))
   pub few : r .at + line-room * from ≤ at + line-room * r .used
   pub fits : r .at ≤ length out
-  pub bytes : out' ≡ put out at (printed-along (machine-of desk) (used-bytes chunk from (r .used)))
+  pub bytes : out' ≡ put out at (printed-along (machine-of state) (used-bytes chunk from (r .used)))
 
 -- while the buffer has room for what a line may print the chunk is used on, to its end
 pub record GoesOn (chunk : Bytes) (from : ℕ) (out : Bytes) (at : ℕ) (r : Fed) : Type 0 where

@@ -6,7 +6,7 @@ use borrow.Author.Needs.{needs}
 use borrow.Author.Tests.{leb-true, leb-false}
 use lib.ListN.{length, take}
 use lib.Seq.{length-take-le}
-use Rattle.program.specs.declared.feed.Desk.{Desk}
+use Rattle.program.specs.declared.feed.State.{State}
 use Rattle.program.specs.Inner.Days.{line-room}
 use Rattle.program.specs.Inner.Machines.{held-bytes, TakenIn}
 use Rattle.program.proofs.Feeding.Known.{held-room}
@@ -18,21 +18,21 @@ use Rattle.program.proofs.feed.feed.Tie as tie
 abbrev Inv-loop : tie.InvT-loop
 Inv-loop chunk from out₀ at day₀ number₀ held₀ used₀ end₀ out day number held used end =
     TakenIn (record { day = day₀; number = number₀; held = held₀ }) chunk from out₀ at
-    (record { desk = record { day = day; number = number; held = held }; used = used; at = end })
+    (record { state = record { day = day; number = number; held = held }; used = used; at = end })
     out
 
 abbrev μ-loop : tie.MeasureT-loop
 μ-loop chunk from out₀ at day₀ number₀ held₀ used₀ end₀ out day number held used end = length chunk - used
 
--- the desk where a turn begins
-abbrev desk-at : tie.At-loop Inv-loop μ-loop → Desk
-desk-at c = record { day = c .loop .day; number = c .loop .number; held = c .loop .held }
+-- the state where a turn begins
+abbrev state-at : tie.At-loop Inv-loop μ-loop → State
+state-at c = record { day = c .loop .day; number = c .loop .number; held = c .loop .held }
 
 loop-holds : tie.Need-loop-holds Inv-loop μ-loop
 loop-holds c =
     let s = c .before .before .before .before in
     let a = s .args in
-    let k : Desk = record { day = a .desk .day; number = a .desk .number; held = a .desk .held } in
+    let k : State = record { day = a .state .day; number = a .state .number; held = a .state .held } in
     let p = s .pre .1 .0 in
     taken-none k (a .chunk .now) (a .from) (a .out .now) (a .at) (s .pre .0) (p .0) (p .1) (p .2)
 
@@ -101,7 +101,7 @@ loop-again c =
     let s = l .before .before .before .before .before in
     let r = c .before .before .before .answer-line in
     taken-join (l .loop .inv)
-    (taken-line (desk-at l) (s .args .chunk .now) (l .loop .used) (e .result) (l .loop .out) (l .loop .end) (e .ensures)
+    (taken-line (state-at l) (s .args .chunk .now) (l .loop .used) (e .result) (l .loop .out) (l .loop .end) (e .ensures)
     (h .result) (h .ensures .1) (u .if2 .taken) (r .result) (r .last .1 .1 .1 .0) (r .ensures) (h .result .bytes) (room t))
 
 loop-less-2 : tie.Need-loop-less-2 Inv-loop μ-loop
@@ -118,7 +118,7 @@ loop-again-2 c =
     let s = l .before .before .before .before .before in
     let v = l .loop .inv in
     taken-join v
-    (taken-part (desk-at l) (s .args .chunk .now) (l .loop .used) (e .result) (l .loop .out) (l .loop .end) (e .ensures)
+    (taken-part (state-at l) (s .args .chunk .now) (l .loop .used) (e .result) (l .loop .out) (l .loop .end) (e .ensures)
     (h .result) (h .ensures .1) (v .good) (h .ensures .0) (omega (arith, room t)))
 
 same-length : tie.Need-same-length Inv-loop μ-loop

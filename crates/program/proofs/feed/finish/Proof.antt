@@ -40,7 +40,7 @@ returns c =
     let a = s .args in
     let l = r .last-line .ensures in
     let d = r .last-line .result .day in
-    let e = end-closed (machine-of (a .desk)) d (l .session) (not-true (d .opened) (c .if1 .taken)) in
+    let e = end-closed (machine-of (a .state)) d (l .session) (not-true (d .opened) (c .if1 .taken)) in
     record {
       end = l .end ∙ ap (λ (x : Bytes). a .at + length x) (sym e);
       fits = omega (arith, l .within, s .pre .1 .1);
@@ -70,9 +70,9 @@ grades g = g .grades .ensures ∙ grades-of _ (shallow (g .before))
 cast-grades : tie.Need-cast-grades
 cast-grades c = search needs
 
-say-tally-requires : tie.Need-say-tally-requires
+print-tally-requires : tie.Need-print-tally-requires
 unfolding line-room end-room deepest
-say-tally-requires c κs =
+print-tally-requires c κs =
     let g = c .before .before in
     let r = at-last (g .before) in
     let s = r .before .before .before in
@@ -85,14 +85,14 @@ same-length-2 c = search needs
 returns-2 : tie.Need-returns-2
 unfolding end-room
 returns-2 c =
-    let p = c .before .before .say-tally .ensures in
+    let p = c .before .before .print-tally .ensures in
     let g = c .before .before .before .before .before in
     let r = at-last (g .before) in
     let s = r .before .before .before in
     let a = s .args in
     let l = r .last-line .ensures in
     let d = r .last-line .result .day in
-    let m = machine-of (a .desk) in
+    let m = machine-of (a .state) in
     let first = last-answer m .output in
     let second = printed-tally (g .grades .result) 0 (d .tally) in
     let e : printed-at-end m ≡ first ++ second =
@@ -120,6 +120,6 @@ finish-spec =
     returns
     grades-requires
     cast-grades
-    say-tally-requires
+    print-tally-requires
     same-length-2
     returns-2)

@@ -10,22 +10,22 @@ use Rattle.printing.specs.Lines.{put}
 use Rattle.program.specs.Inner.Machines.{held-bytes, machine-of}
 use Rattle.program.proofs.Feeding.Buffers.{put-none}
 use Rattle.program.proofs.Feeding.Ending.{last-none, last-begun}
-use Rattle.program.proofs.Feeding.Known.{desk-room}
+use Rattle.program.proofs.Feeding.Known.{state-room}
 use Rattle.program.proofs.feed.last_line.Statement.{statement}
 use Rattle.program.proofs.feed.last_line.Tie as tie
 
 -- so many bytes are held
-full : (c : tie.Start) → length (take (c .args .desk .held .len) (c .args .desk .held .bytes)) ≡ c .args .desk .held .len
+full : (c : tie.Start) → length (take (c .args .state .held .len) (c .args .state .held .bytes)) ≡ c .args .state .held .len
 full c =
-    let h = c .args .desk .held in
-    length-take-le (h .len) (h .bytes) (omega (arith, desk-room (c .args .desk) _ (c .good .0)))
+    let h = c .args .state .held in
+    length-take-le (h .len) (h .bytes) (omega (arith, state-room (c .args .state) _ (c .good .0)))
 
 returns : tie.Need-returns
 unfolding machine-of held-bytes
 returns c =
     let s = c .before .before .before .before in
     let a = s .args in
-    let e = last-none (machine-of (a .desk)) (full s ∙ c .if1 .taken) in
+    let e = last-none (machine-of (a .state)) (full s ∙ c .if1 .taken) in
     record {
       good = s .pre .0;
       session = sym (ap (λ (x : Answer). x .session) e);
@@ -37,7 +37,7 @@ returns c =
 array-share-prefix-bytes : tie.Need-array-share-prefix-bytes
 array-share-prefix-bytes c =
     let s = c .before .before .before .before .before in
-    omega (arith, desk-room (s .args .desk) _ (s .good .0), s .pre .1 .0)
+    omega (arith, state-room (s .args .state) _ (s .good .0), s .pre .1 .0)
 
 slice-aggregate-answer-line : tie.Need-slice-aggregate-answer-line
 slice-aggregate-answer-line c = sym (full (c .before .before .before .before .before .before))
@@ -55,7 +55,7 @@ returns-2 c =
     let s = t .before .before .before .before in
     let a = s .args in
     let r = c .before .before .answer-line .ensures in
-    let e = last-begun (machine-of (a .desk)) (λ z. t .if1 .left (sym (full s) ∙ z)) in
+    let e = last-begun (machine-of (a .state)) (λ z. t .if1 .left (sym (full s) ∙ z)) in
     record {
       good = r .good;
       session = r .session ∙ sym (ap (λ (x : Answer). x .session) e);

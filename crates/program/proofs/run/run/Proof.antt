@@ -15,13 +15,13 @@ use Rattle.program.proofs.run.run.Statement.{statement}
 use Rattle.program.proofs.run.run.Tie as tie
 
 abbrev Inv-loop : tie.InvT-loop
-Inv-loop desk₀ chunk₀ out₀ read₀ written₀ desk chunk out read written = SoFar desk read written × (length chunk ≡ buffer-length) × (length out ≡ buffer-length)
+Inv-loop state₀ chunk₀ out₀ read₀ written₀ state chunk out read written = SoFar state read written × (length chunk ≡ buffer-length) × (length out ≡ buffer-length)
 
 abbrev μ-loop : tie.MeasureT-loop
-μ-loop desk₀ chunk₀ out₀ read₀ written₀ desk chunk out read written = most-read - read
+μ-loop state₀ chunk₀ out₀ read₀ written₀ state chunk out read written = most-read - read
 
-new-desk-requires : tie.Need-new-desk-requires Inv-loop μ-loop
-new-desk-requires c κs = search needs
+new-state-requires : tie.Need-new-state-requires Inv-loop μ-loop
+new-state-requires c κs = search needs
 
 large-buffer-requires : tie.Need-large-buffer-requires Inv-loop μ-loop
 large-buffer-requires c κs = search needs
@@ -32,7 +32,7 @@ large-buffer-requires-2 c κs = search needs
 loop-holds : tie.Need-loop-holds Inv-loop μ-loop
 unfolding buffer-length
 loop-holds c =
-    (nothing-read (c .before .before .new-desk .ensures), sym (c .before .large-buffer .ensures), sym (c .large-buffer2 .ensures))
+    (nothing-read (c .before .before .new-state .ensures), sym (c .before .large-buffer .ensures), sym (c .large-buffer2 .ensures))
 
 slice-aggregate-read-some : tie.Need-slice-aggregate-read-some Inv-loop μ-loop
 unfolding buffer-length
@@ -152,7 +152,7 @@ run-spec =
     (tie.spec
     Inv-loop
     μ-loop
-    new-desk-requires
+    new-state-requires
     large-buffer-requires
     large-buffer-requires-2
     loop-holds

@@ -13,10 +13,10 @@ use Rattle.program.proofs.run.take_in.Statement.{statement}
 use Rattle.program.proofs.run.take_in.Tie as tie
 
 abbrev Inv-loop : tie.InvT-loop
-Inv-loop chunk out₀ desk₀ used₀ written₀ out desk used written = Along desk₀ chunk desk used written × (length out ≡ length out₀)
+Inv-loop chunk out₀ state₀ used₀ written₀ out state used written = Along state₀ chunk state used written × (length out ≡ length out₀)
 
 abbrev μ-loop : tie.MeasureT-loop
-μ-loop chunk out₀ desk₀ used₀ written₀ out desk used written = length chunk - used
+μ-loop chunk out₀ state₀ used₀ written₀ out state used written = length chunk - used
 
 loop-holds : tie.Need-loop-holds Inv-loop μ-loop
 loop-holds c =

@@ -34,12 +34,12 @@ returns c =
 cast-t22 : tie.Need-cast-t22
 cast-t22 c = search needs
 
-slice-aggregate-say : tie.Need-slice-aggregate-say
-slice-aggregate-say c = search needs
+slice-aggregate-print-at : tie.Need-slice-aggregate-print-at
+slice-aggregate-print-at c = search needs
 
-say-requires : tie.Need-say-requires
+print-at-requires : tie.Need-print-at-requires
 unfolding line-room
-say-requires c κs = search needs
+print-at-requires c κs = search needs
 
 count-requires : tie.Need-count-requires
 count-requires c κs = search needs
@@ -54,7 +54,7 @@ returns-2 c =
     let e = s .before .before .before .before in
     let o = e .before .before in
     let p = o .before .before .before .pre in
-    admit-given _ _ _ _ _ (o .admit-in-limits .result) (answered o) _ (p .0 (p .1 .0)) (e .if1 .left) (s .say .ensures) (c .count .ensures)
+    admit-given _ _ _ _ _ (o .admit-in-limits .result) (answered o) _ (p .0 (p .1 .0)) (e .if1 .left) (s .print-at .ensures) (c .count .ensures)
 
 pub admit-line-spec : {M : Type 1} → statement M
 admit-line-spec =
@@ -65,8 +65,8 @@ admit-line-spec =
     same-length
     returns
     cast-t22
-    slice-aggregate-say
-    say-requires
+    slice-aggregate-print-at
+    print-at-requires
     count-requires
     same-length-2
     returns-2)

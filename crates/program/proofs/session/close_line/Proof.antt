@@ -86,34 +86,34 @@ cast-t32 c = search needs
 cast-t33 : tie.Need-cast-t33
 cast-t33 c = search needs
 
-slice-aggregate-say : tie.Need-slice-aggregate-say
-slice-aggregate-say c = search needs
+slice-aggregate-print-at : tie.Need-slice-aggregate-print-at
+slice-aggregate-print-at c = search needs
 
-say-requires : tie.Need-say-requires
+print-at-requires : tie.Need-print-at-requires
 unfolding line-room
-say-requires c κs = omega (arith, entry (closing (c .before .before .before .before .before .before .before)) .pre .1 .1)
+print-at-requires c κs = omega (arith, entry (closing (c .before .before .before .before .before .before .before)) .pre .1 .1)
 
 array-share-prefix-tickets : tie.Need-array-share-prefix-tickets
 array-share-prefix-tickets c = listed c .in-tickets
 
-slice-aggregate-say-gone : tie.Need-slice-aggregate-say-gone
-slice-aggregate-say-gone c = sym (length-take-le _ _ (listed (c .before) .in-tickets))
+slice-aggregate-print-given-up : tie.Need-slice-aggregate-print-given-up
+slice-aggregate-print-given-up c = sym (length-take-le _ _ (listed (c .before) .in-tickets))
 
 array-share-prefix-grades : tie.Need-array-share-prefix-grades
 array-share-prefix-grades c = listed (c .before) .in-grades
 
-slice-aggregate-say-gone-2 : tie.Need-slice-aggregate-say-gone-2
-slice-aggregate-say-gone-2 c = sym (length-take-le _ _ (listed (c .before .before) .in-grades))
+slice-aggregate-print-given-up-2 : tie.Need-slice-aggregate-print-given-up-2
+slice-aggregate-print-given-up-2 c = sym (length-take-le _ _ (listed (c .before .before) .in-grades))
 
-say-gone-requires : tie.Need-say-gone-requires
+print-given-up-requires : tie.Need-print-given-up-requires
 unfolding line-room
-say-gone-requires c κs =
+print-given-up-requires c κs =
     let d = c .before .before .before in
     let s = d .before .before in
     let n = listed d in
     let t = length-take-le _ _ (n .in-tickets) in
     let g = length-take-le _ _ (n .in-grades) in
-    (g ∙ sym t, omega (arith, t, n .few, s .say .ensures .within, s .say .kept .0, entry (closing (going d)) .pre .1 .1))
+    (g ∙ sym t, omega (arith, t, n .few, s .print-at .ensures .within, s .print-at .kept .0, entry (closing (going d)) .pre .1 .1))
 
 count-baked-requires : tie.Need-count-baked-requires
 count-baked-requires c κs = search needs
@@ -121,12 +121,12 @@ count-baked-requires c κs = search needs
 array-share-prefix-grades-2 : tie.Need-array-share-prefix-grades-2
 array-share-prefix-grades-2 c = listed (c .before .before .before .before .before .before .before .before) .in-grades
 
-slice-aggregate-count-gone : tie.Need-slice-aggregate-count-gone
-slice-aggregate-count-gone c =
+slice-aggregate-count-given-up : tie.Need-slice-aggregate-count-given-up
+slice-aggregate-count-given-up c =
     sym (length-take-le _ _ (listed (c .before .before .before .before .before .before .before .before .before) .in-grades))
 
-count-gone-requires : tie.Need-count-gone-requires
-count-gone-requires c κs = search needs
+count-given-up-requires : tie.Need-count-given-up-requires
+count-given-up-requires c κs = search needs
 
 same-length-2 : tie.Need-same-length-2
 same-length-2 c = search needs
@@ -142,9 +142,9 @@ returns-2 c =
     let n = listed d in
     let grades = take (k .close-in-limits .result .expired) (k .close-in-limits .last .1 .1 .0) in
     close-given _ _ (k .close-in-limits .result) (closed-full k) _ _ _ (board-sound s) (going d .if1 .left) (omega (arith, s .pre .1 .1)) (n .tickets) (n .grades)
-    (d .before .before .say .ensures)
-    (g .say-gone .ensures)
-    (c .before .count-gone .ensures ∙ ap (λ (t : Tally). fed t (map (event given-up-kind) grades)) (y .count-baked .ensures))
+    (d .before .before .print-at .ensures)
+    (g .print-given-up .ensures)
+    (c .before .count-given-up .ensures ∙ ap (λ (t : Tally). fed t (map (event given-up-kind) grades)) (y .count-baked .ensures))
 
 pub close-line-spec : {M : Type 1} → statement M
 close-line-spec =
@@ -162,16 +162,16 @@ close-line-spec =
     cast-t31
     cast-t32
     cast-t33
-    slice-aggregate-say
-    say-requires
+    slice-aggregate-print-at
+    print-at-requires
     array-share-prefix-tickets
-    slice-aggregate-say-gone
+    slice-aggregate-print-given-up
     array-share-prefix-grades
-    slice-aggregate-say-gone-2
-    say-gone-requires
+    slice-aggregate-print-given-up-2
+    print-given-up-requires
     count-baked-requires
     array-share-prefix-grades-2
-    slice-aggregate-count-gone
-    count-gone-requires
+    slice-aggregate-count-given-up
+    count-given-up-requires
     same-length-2
     returns-2)

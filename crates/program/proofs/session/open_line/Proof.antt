@@ -21,12 +21,12 @@ returns c =
     let o = t .before .before in
     given-as (open-refused _ _ _ (o .open .result) (o .open .ensures) (t .if1 .taken)) (c .before .before .refuse .ensures)
 
-slice-aggregate-say : tie.Need-slice-aggregate-say
-slice-aggregate-say c = search needs
+slice-aggregate-print-at : tie.Need-slice-aggregate-print-at
+slice-aggregate-print-at c = search needs
 
-say-requires : tie.Need-say-requires
+print-at-requires : tie.Need-print-at-requires
 unfolding line-room
-say-requires c κs = search needs
+print-at-requires c κs = search needs
 
 same-length-2 : tie.Need-same-length-2
 same-length-2 c = search needs
@@ -37,7 +37,7 @@ returns-2 c =
     let s = c .before .before .before .before in
     let e = s .before .before .before in
     let o = e .before .before in
-    open-given _ _ _ (o .open .result) (o .open .ensures) (e .if1 .left) (s .say .ensures)
+    open-given _ _ _ (o .open .result) (o .open .ensures) (e .if1 .left) (s .print-at .ensures)
 
 pub open-line-spec : {M : Type 1} → statement M
 open-line-spec =
@@ -47,7 +47,7 @@ open-line-spec =
     refuse-requires
     same-length
     returns
-    slice-aggregate-say
-    say-requires
+    slice-aggregate-print-at
+    print-at-requires
     same-length-2
     returns-2)

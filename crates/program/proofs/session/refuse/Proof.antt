@@ -6,19 +6,19 @@ use Rattle.program.proofs.Answering.Answers.{refusal-given}
 use Rattle.program.proofs.session.refuse.Statement.{statement}
 use Rattle.program.proofs.session.refuse.Tie as tie
 
-slice-aggregate-say : tie.Need-slice-aggregate-say
-slice-aggregate-say c = search needs
+slice-aggregate-print-at : tie.Need-slice-aggregate-print-at
+slice-aggregate-print-at c = search needs
 
-say-requires : tie.Need-say-requires
+print-at-requires : tie.Need-print-at-requires
 unfolding line-room
-say-requires c κs = search needs
+print-at-requires c κs = search needs
 
 same-length : tie.Need-same-length
 same-length c = search needs
 
 returns : tie.Need-returns
 unfolding letter-R
-returns c = refusal-given _ _ _ (c .before .before .before .before .before .before .pre .0) (c .before .before .say .ensures)
+returns c = refusal-given _ _ _ (c .before .before .before .before .before .before .pre .0) (c .before .before .print-at .ensures)
 
 pub refuse-spec : {M : Type 1} → statement M
-refuse-spec = tie.close (tie.spec slice-aggregate-say say-requires same-length returns)
+refuse-spec = tie.close (tie.spec slice-aggregate-print-at print-at-requires same-length returns)

@@ -1,4 +1,4 @@
--- `say_tally`: with the lines that are left put behind, the tally is the whole one.
+-- `print_tally`: with the lines that are left put behind, the tally is the whole one.
 use mathlib.Core.List.{[], _∷_}
 use mathlib.Core.Path.{_≡_, refl, ap, _∙_}
 use Prim.Native.Nat.{_+_, _*_, _-_, _≤_}
@@ -14,8 +14,8 @@ use Rattle.lines.specs.Session.{tally-line, printed-tally}
 use Rattle.printing.specs.Lines.{room, put}
 use Rattle.program.proofs.Answering.Pieces.{Left, all-left, fewer-left, none-left}
 use Rattle.program.proofs.Feeding.Ending.{tally-next, tally-done}
-use Rattle.program.proofs.feed.say_tally.Statement.{statement}
-use Rattle.program.proofs.feed.say_tally.Tie as tie
+use Rattle.program.proofs.feed.print_tally.Statement.{statement}
+use Rattle.program.proofs.feed.print_tally.Tie as tie
 
 abbrev Inv-loop : tie.InvT-loop
 Inv-loop t grades out₀ at end₀ g₀ out end g =
@@ -43,12 +43,12 @@ count-of-requires-3 : tie.Need-count-of-requires-3 Inv-loop μ-loop
 unfolding tally-kinds
 count-of-requires-3 c κs = search needs
 
-slice-aggregate-say : tie.Need-slice-aggregate-say Inv-loop μ-loop
-slice-aggregate-say c = search needs
+slice-aggregate-print-at : tie.Need-slice-aggregate-print-at Inv-loop μ-loop
+slice-aggregate-print-at c = search needs
 
-say-requires : tie.Need-say-requires Inv-loop μ-loop
+print-at-requires : tie.Need-print-at-requires Inv-loop μ-loop
 unfolding room
-say-requires c κs = search needs
+print-at-requires c κs = search needs
 
 add-g : tie.Need-add-g Inv-loop μ-loop
 add-g c = search needs
@@ -59,7 +59,7 @@ loop-less c = search needs
 loop-again : tie.Need-loop-again Inv-loop μ-loop
 unfolding letter-T room tally-line admitted-kind baked-kind given-up-kind
 loop-again c =
-    let p = c .before .before .say in
+    let p = c .before .before .print-at in
     let q = c .before .before .before .before .before in
     let t = q .before .before .before in
     let s = t .before .before .before in
@@ -68,7 +68,7 @@ loop-again c =
     let v = l .inv in
     let g = l .g in
     let line = tally-line g (a .t) in
-    let said : printed 84 (g ∷ q .before .before .count-of .result ∷ q .before .count-of2 .result ∷ q .count-of3 .result ∷ []) ≡ line =
+    let day-after : printed 84 (g ∷ q .before .before .count-of .result ∷ q .before .count-of2 .result ∷ q .count-of3 .result ∷ []) ≡ line =
     rw (q .before .before .count-of .ensures, q .before .count-of2 .ensures, q .count-of3 .ensures)
     in
     let rest = printed-tally (a .grades - (g + 1)) (g + 1) (a .t) in
@@ -77,8 +77,8 @@ loop-again c =
       omega arith,
       p .kept .0 ∙ v .2,
       fewer-left line rest (l .out) (l .end) _ _ (rw n at (v .3)) (omega arith)
-          (p .ensures .end ∙ ap (λ (x : Bytes). l .end + length x) said)
-          (p .ensures .bytes ∙ ap (put (l .out) (l .end)) said),
+          (p .ensures .end ∙ ap (λ (x : Bytes). l .end + length x) day-after)
+          (p .ensures .bytes ∙ ap (put (l .out) (l .end)) day-after),
     )
 
 same-length : tie.Need-same-length Inv-loop μ-loop
@@ -93,8 +93,8 @@ returns c =
     let n = none-left _ _ (rw (tally-done (a .grades) (l .g) (a .t) (c .loop-test .left)) at (l .inv .3)) in
     record { end = n .0; fits = omega arith; bytes = n .1 }
 
-pub say-tally-spec : {M : Type 1} → statement M
-say-tally-spec =
+pub print-tally-spec : {M : Type 1} → statement M
+print-tally-spec =
     tie.close
     (tie.spec
     Inv-loop
@@ -103,8 +103,8 @@ say-tally-spec =
     count-of-requires
     count-of-requires-2
     count-of-requires-3
-    slice-aggregate-say
-    say-requires
+    slice-aggregate-print-at
+    print-at-requires
     add-g
     loop-less
     loop-again

@@ -1,4 +1,4 @@
--- `program::session::count_gone`: the events that are left come after those counted. Assumes nothing.
+-- `program::session::count_given_up`: the events that are left come after those counted. Assumes nothing.
 use mathlib.Core.Path.{_≡_, refl, sym, ap, _∙_}
 use mathlib.Core.List.{map}
 use Prim.Native.Nat.{_+_, _-_, _≤_}
@@ -8,8 +8,8 @@ use lib.ListN.{length, drop}
 use Rattle.board.specs.declared.Tally.{Tally}
 use Rattle.board.specs.Events.{given-up-kind, event, fed}
 use Rattle.program.proofs.Answering.Entries.{next-event, no-event}
-use Rattle.program.proofs.session.count_gone.Statement.{statement}
-use Rattle.program.proofs.session.count_gone.Tie as tie
+use Rattle.program.proofs.session.count_given_up.Statement.{statement}
+use Rattle.program.proofs.session.count_given_up.Tie as tie
 
 abbrev Inv-loop : tie.InvT-loop
 Inv-loop grades tally₀ i₀ tally i =
@@ -46,8 +46,8 @@ loop-again c =
 returns : tie.Need-returns Inv-loop μ-loop
 returns c = sym (no-event given-up-kind _ _ _ (c .loop-test .left)) ∙ c .before .loop .inv .1
 
-pub count-gone-spec : {M : Type 1} → statement M
-count-gone-spec =
+pub count-given-up-spec : {M : Type 1} → statement M
+count-given-up-spec =
     tie.close
     (tie.spec
     Inv-loop

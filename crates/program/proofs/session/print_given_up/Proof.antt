@@ -1,4 +1,4 @@
--- `program::session::say_gone`: the lines that are left come behind those printed. Assumes nothing.
+-- `program::session::print_given_up`: the lines that are left come behind those printed. Assumes nothing.
 use mathlib.Core.Path.{_≡_, refl}
 use mathlib.Core.List.{[], _∷_}
 use Prim.Native.Nat.{_+_, _-_, _*_, _≤_}
@@ -11,15 +11,15 @@ use Rattle.printing.specs.Lines.{room}
 use Rattle.program.specs.Inner.Days.{printed-each}
 use Rattle.program.proofs.Answering.Pieces.{Left, all-left, fewer-left, none-left}
 use Rattle.program.proofs.Answering.Entries.{next-line, no-line}
-use Rattle.program.proofs.session.say_gone.Statement.{statement}
-use Rattle.program.proofs.session.say_gone.Tie as tie
+use Rattle.program.proofs.session.print_given_up.Statement.{statement}
+use Rattle.program.proofs.session.print_given_up.Tie as tie
 
 abbrev Inv-loop : tie.InvT-loop
 Inv-loop slot tickets grades out₀ at end₀ i₀ out end i =
     (i ≤ length tickets)
     × (end ≤ at + i * room)
     × (length out ≡ length out₀)
-    × Left (printed-each slot tickets grades) out₀ at (printed-each slot (drop i tickets) (drop i grades)) out end
+    × Left (printed-each (slot .0) tickets grades) out₀ at (printed-each (slot .0) (drop i tickets) (drop i grades)) out end
 
 abbrev μ-loop : tie.MeasureT-loop
 μ-loop slot tickets grades out₀ at end₀ i₀ out end i = length tickets - i
@@ -28,6 +28,9 @@ loop-holds : tie.Need-loop-holds Inv-loop μ-loop
 unfolding room
 loop-holds c = (omega arith, omega arith, refl, all-left _ _ _)
 
+cast-t13 : tie.Need-cast-t13 Inv-loop μ-loop
+cast-t13 c = search needs
+
 mul-t8 : tie.Need-mul-t8 Inv-loop μ-loop
 mul-t8 c = search needs
 
@@ -35,20 +38,20 @@ shared-slice-read-t15 : tie.Need-shared-slice-read-t15 Inv-loop μ-loop
 shared-slice-read-t15 c = search needs
 
 cast-t16 : tie.Need-cast-t16 Inv-loop μ-loop
-cast-t16 c = omega (arith, c .shared-slice-known3 .given (c .before .before .before .loop .i))
+cast-t16 c = omega (arith, c .shared-slice-known3 .given (c .before .before .before .before .loop .i))
 
 shared-slice-read-t18 : tie.Need-shared-slice-read-t18 Inv-loop μ-loop
 shared-slice-read-t18 c = search needs
 
 cast-t19 : tie.Need-cast-t19 Inv-loop μ-loop
-cast-t19 c = omega (arith, c .shared-slice-known4 .given (c .before .before .before .before .loop .i))
+cast-t19 c = omega (arith, c .shared-slice-known4 .given (c .before .before .before .before .before .loop .i))
 
-slice-aggregate-say : tie.Need-slice-aggregate-say Inv-loop μ-loop
-slice-aggregate-say c = search needs
+slice-aggregate-print-at : tie.Need-slice-aggregate-print-at Inv-loop μ-loop
+slice-aggregate-print-at c = search needs
 
-say-requires : tie.Need-say-requires Inv-loop μ-loop
+print-at-requires : tie.Need-print-at-requires Inv-loop μ-loop
 unfolding room
-say-requires c κs = search needs
+print-at-requires c κs = search needs
 
 add-i : tie.Need-add-i Inv-loop μ-loop
 add-i c = search needs
@@ -60,17 +63,17 @@ loop-again : tie.Need-loop-again Inv-loop μ-loop
 unfolding letter-G room
 loop-again c =
     let s = c .before .before in
-    let l = s .before .before .before .before .before .before in
+    let l = s .before .before .before .before .before .before .before in
     let a = l .before .before .before .before .args in
     let v = l .loop .inv in
     let i = l .loop .i in
     let T = a .tickets .now in
     let G = a .grades .now in
-    let e = next-line (a .slot) T G i (omega arith) (omega arith) in (
+    let e = next-line (a .slot .0) T G i (omega arith) (omega arith) in (
       omega arith,
       omega arith,
       omega arith,
-      fewer-left (printed letter-G (a .slot ∷ getD T i 0 ∷ getD G i 0 ∷ [])) _ _ _ _ _ (rw e at (v .3)) (omega arith) (s .say .ensures .end) (s .say .ensures .bytes),
+      fewer-left (printed letter-G (a .slot .0 ∷ getD T i 0 ∷ getD G i 0 ∷ [])) _ _ _ _ _ (rw e at (v .3)) (omega arith) (s .print-at .ensures .end) (s .print-at .ensures .bytes),
     )
 
 same-length : tie.Need-same-length Inv-loop μ-loop
@@ -83,20 +86,21 @@ returns c =
     let n = none-left _ _ (rw (no-line _ _ _ _ (c .loop-test .left)) at (l .loop .inv .3)) in
     record { end = n .0; within = omega arith; bytes = n .1 }
 
-pub say-gone-spec : {M : Type 1} → statement M
-say-gone-spec =
+pub print-given-up-spec : {M : Type 1} → statement M
+print-given-up-spec =
     tie.close
     (tie.spec
     Inv-loop
     μ-loop
     loop-holds
+    cast-t13
     mul-t8
     shared-slice-read-t15
     cast-t16
     shared-slice-read-t18
     cast-t19
-    slice-aggregate-say
-    say-requires
+    slice-aggregate-print-at
+    print-at-requires
     add-i
     loop-less
     loop-again

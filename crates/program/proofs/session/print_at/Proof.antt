@@ -1,4 +1,4 @@
--- `program::session::say`: a line has room. Assumes nothing.
+-- `program::session::print_at`: a line has room. Assumes nothing.
 use mathlib.Core.List.{List}
 use mathlib.Core.Path.{ap, _∙_}
 use Prim.Native.Nat.{ℕ}
@@ -6,9 +6,9 @@ use borrow.Author.Needs.{needs}
 use lib.Seq.{take-all}
 use Rattle.lines.specs.Printing.{printed}
 use Rattle.printing.specs.Lines.{line-numbers, line-of}
-use Rattle.program.proofs.Answering.Pieces.{line-said}
-use Rattle.program.proofs.session.say.Statement.{statement}
-use Rattle.program.proofs.session.say.Tie as tie
+use Rattle.program.proofs.Answering.Pieces.{line-printed}
+use Rattle.program.proofs.session.print_at.Statement.{statement}
+use Rattle.program.proofs.session.print_at.Tie as tie
 
 print-line-requires : tie.Need-print-line-requires
 print-line-requires c κs = search needs
@@ -25,7 +25,7 @@ returns c =
     let p = l .before .before in
     let s = p .before .before .before in
     let all = ap (λ (ns : List ℕ). line-of (printed (s .args .letter) ns)) (take-all line-numbers (s .args .numbers .now) (s .pre .0)) in
-    line-said _ _ _ _ _ _ (s .pre .1) (p .print-line .ensures .0 ∙ all) (p .print-line .ensures .1) (l .put-line .ensures .0) (l .put-line .ensures .1)
+    line-printed _ _ _ _ _ _ (s .pre .1) (p .print-line .ensures .0 ∙ all) (p .print-line .ensures .1) (l .put-line .ensures .0) (l .put-line .ensures .1)
 
-pub say-spec : {M : Type 1} → statement M
-say-spec = tie.close (tie.spec print-line-requires put-line-requires same-length returns)
+pub print-at-spec : {M : Type 1} → statement M
+print-at-spec = tie.close (tie.spec print-line-requires put-line-requires same-length returns)

@@ -1,4 +1,4 @@
--- `new_desk`: no board, nothing counted, no byte held.
+-- `new_state`: no board, nothing counted, no byte held.
 use mathlib.Core.List.{[]}
 use mathlib.Core.Option.{none}
 use mathlib.Core.Path.{refl, ap}
@@ -10,8 +10,8 @@ use Rattle.lines.specs.Machine.{new-machine}
 use Rattle.program.specs.Inner.Days.{session-of, GoodDay}
 use Rattle.program.specs.Inner.Machines.{held-bytes, machine-of}
 use Rattle.program.proofs.Feeding.Along.{reading}
-use Rattle.program.proofs.feed.new_desk.Statement.{statement}
-use Rattle.program.proofs.feed.new_desk.Tie as tie
+use Rattle.program.proofs.feed.new_state.Statement.{statement}
+use Rattle.program.proofs.feed.new_state.Tie as tie
 
 open-requires : tie.Need-open-requires
 open-requires c κs = search needs
@@ -29,5 +29,5 @@ returns c =
       held = search needs;
     }
 
-pub new-desk-spec : {M : Type 1} → statement M
-new-desk-spec = tie.close (tie.spec open-requires zero-requires returns)
+pub new-state-spec : {M : Type 1} → statement M
+new-state-spec = tie.close (tie.spec open-requires zero-requires returns)
