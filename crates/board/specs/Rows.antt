@@ -19,8 +19,8 @@ unfoldable pub first-given : List Row → ℕ
 first-given [] = 0
 first-given (r ∷ rows) = cond (r .given) (r .number) (first-given rows)
 
--- Rows 3 to 7, for admitting. They read a slot, a highest ticket, the number of jobs admitted in that slot and a depth: the board's, or the
--- day book's.
+-- Rows 3 to 7, for admitting: 'slot is 1,000,001', 'ticket not above the highest so far', 'wait not 1 to 32', 'grade not below 2^D', 'eight racks on the
+-- board were admitted in this slot'. They read a slot, a highest ticket, the number of jobs admitted in that slot and a depth: the board's, or the day book's.
 unfoldable pub admit-rows : (slot highest in-slot depth ticket laxity grade : ℕ) → List Row
 admit-rows slot highest in-slot depth ticket laxity grade =
     3 if eqb slot (suc last-slot)
@@ -30,7 +30,7 @@ admit-rows slot highest in-slot depth ticket laxity grade =
     ∷ 7 if leb most-in-slot in-slot
     ∷ []
 
--- Rows 3 and 8, for closing with a lent list of so many entries.
+-- Rows 3 and 8, for closing with a lent list of so many entries: 'slot is 1,000,001', 'lent list has fewer than 256 entries'.
 unfoldable pub close-rows : (slot lent : ℕ) → List Row
 close-rows slot lent =
     3 if eqb slot (suc last-slot)
