@@ -1,8 +1,8 @@
 -- Rising lists and parts of lists.
-use mathlib.Core.Path.{_≡_, refl, ap}
+use mathlib.Core.Path.{_≡_, refl, ap, _∙_}
 use mathlib.Core.Bool.{Bool, true, false, cond}
 use mathlib.Core.List.{List, [], _∷_, _++_, map, List·Memᴰ, List·Memᴰ·head, List·Memᴰ·tail, List·Memᴰ·not-nil}
-use Prim.Native.Nat.{ℕ, zero, suc, _≤_}
+use Prim.Native.Nat.{ℕ, zero, suc, _-_, _≤_}
 use native.Mathlib.Omega.{arith}
 use lib.Dec.{leb, ltb}
 use lib.ListN.{drop, replicate}
@@ -79,3 +79,9 @@ pub replicate-mem : {A : Type 0} {x : A} (n : ℕ) (a : A) → List·Memᴰ x (r
 replicate-mem zero a m = absurd (List·Memᴰ·not-nil m)
 replicate-mem (suc n) a (List·Memᴰ·head e) = e
 replicate-mem (suc n) a (List·Memᴰ·tail m) = replicate-mem n a m
+
+-- what is left of n equal elements
+pub drop-replicate : {A : Type 0} (k n : ℕ) (a : A) → drop k (replicate n a) ≡ replicate (n - k) a
+drop-replicate zero n a = let e : n ≡ n - zero = omega arith in ap (λ m. replicate m a) e
+drop-replicate (suc k) zero a = let e : zero ≡ zero - suc k = omega arith in ap (λ m. replicate m a) e
+drop-replicate (suc k) (suc n) a = let e : n - k ≡ suc n - suc k = omega arith in drop-replicate k n a ∙ ap (λ m. replicate m a) e

@@ -1,12 +1,13 @@
 -- Laws of bytes put into a buffer: what stands before and behind them, and one byte more.
 use mathlib.Core.List.{[], _∷_, _++_, append-assoc}
 use mathlib.Core.Path.{_≡_, ap, sym, _∙_}
-use Prim.Native.Nat.{ℕ, zero, suc, _+_, _-_, _≤_, _<_}
-use native.Mathlib.Nat.{zero-add, sub-zero, zero-sub, suc-sub-suc}
+use Prim.Native.Nat.{ℕ, suc, _+_, _≤_, _<_}
+use native.Mathlib.Nat.{zero-add, add-zero}
 use native.Mathlib.Numerals.{add-one}
 use native.Mathlib.Omega.{arith}
-use lib.ListN.{length, take, drop, set, replicate, length-append, length-set}
+use lib.ListN.{length, take, drop, set, replicate, length-append, length-set, take-append-drop}
 use lib.Seq.{take-at, drop-at, drop-drop, take-set-le, drop-cons, drop-set-lt, set-split, getD-set-same, length-take-le, paste}
+use Rattle.lists.proofs.Parts.{drop-replicate}
 use Rattle.lines.specs.Bytes.{Bytes}
 use Rattle.printing.specs.Lines.{put, line-of, room}
 
@@ -57,14 +58,14 @@ put-one out at b h = rw add-one (set-split out at b h)
 pub put-first : (out : Bytes) (at b : ℕ) (bs : Bytes) → at < length out → put (set out at b) (at + 1) bs ≡ put out at (b ∷ bs)
 put-first out at b bs h = rw (put-one out at b h) (put-append out at (b ∷ []) bs (omega arith))
 
+-- no bytes change nothing
+pub put-none : (out : Bytes) (at : ℕ) → put out at [] ≡ out
+unfolding put
+put-none out at = rw add-zero (take-append-drop at out)
+
 -- the first n bytes of a list, as a loop copies them
 pub put-taken : (out : Bytes) (at : ℕ) (l : Bytes) (n : ℕ) → n ≤ length l → paste out at l n ≡ put out at (take n l)
 put-taken out at l n h = rw (parted out at (take n l), length-take-le n l h)
-
-drop-replicate : (k n x : ℕ) → drop k (replicate n x) ≡ replicate (n - k) x
-drop-replicate zero n x = rw sub-zero
-drop-replicate (suc k) zero x = rw zero-sub
-drop-replicate (suc k) (suc n) x = rw suc-sub-suc (drop-replicate k n x)
 
 -- bytes put at the start of zeros
 pub put-line-of : (bs : Bytes) → put (replicate room 0) 0 bs ≡ line-of bs .bytes

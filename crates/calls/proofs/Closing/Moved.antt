@@ -2,9 +2,10 @@
 use mathlib.Core.Path.{_≡_, ap, _∙_}
 use mathlib.Core.Bool.{Bool, true, false}
 use mathlib.Core.List.{List, _++_, map, map-id}
-use Prim.Native.Nat.{ℕ, zero, suc, _+_, _-_, _<_}
+use Prim.Native.Nat.{ℕ, _+_, _-_, _<_}
 use native.Mathlib.Omega.{arith}
 use lib.ListN.{length, getD, set, drop, replicate, length-replicate}
+use Rattle.lists.proofs.Parts.{drop-replicate}
 use Rattle.rule.specs.Bake.{stays}
 use Rattle.board.specs.declared.Place.{Place}
 use Rattle.board.specs.declared.Board.{Board}
@@ -37,12 +38,6 @@ module _ (b : Board) (t i n : ℕ) (places : List Place) (l : i < length (b .pla
   moved-more h e =
       let room : n < length (replicate places-held blank) = omega (arith, w .counted .few, length-replicate places-held blank) in
       record { counted = counted-more _ _ i blank l e (w .counted); moved = filled-more _ _ i blank l e (w .counted) room (w .moved) }
-
--- what is left of n equal elements
-drop-replicate : {A : Type 0} (k n : ℕ) (a : A) → drop k (replicate n a) ≡ replicate (n - k) a
-drop-replicate zero n a = let e : n ≡ n - zero = omega arith in ap (λ m. replicate m a) e
-drop-replicate (suc k) zero a = let e : zero ≡ zero - suc k = omega arith in ap (λ m. replicate m a) e
-drop-replicate (suc k) (suc n) a = let e : n - k ≡ suc n - suc k = omega arith in drop-replicate k n a ∙ ap (λ m. replicate m a) e
 
 module _ (b : Board) (t i n : ℕ) (places : List Place) (e : i ≡ b .count) (w : Moved b t i n places) where
   abbrev kept : List Place

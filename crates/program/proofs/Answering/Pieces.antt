@@ -3,12 +3,11 @@ use mathlib.Core.Path.{_≡_, refl, sym, _∙_}
 use mathlib.Core.List.{[], _++_}
 use Prim.Native.Nat.{ℕ, _+_, _≤_}
 use native.Mathlib.Omega.{arith}
-use native.Mathlib.Nat.{add-zero}
-use lib.ListN.{length, length-append, take-append-drop}
+use lib.ListN.{length, length-append}
 use Rattle.lines.specs.Bytes.{Bytes}
 use Rattle.printing.specs.Lines.{room, put, line-of, with-line, end-after}
 use Rattle.printing.specs.declared.Line.{Line}
-use Rattle.printing.proofs.Puts.{put-append}
+use Rattle.printing.proofs.Puts.{put-none, put-append}
 use Rattle.printing.proofs.Placed.{whole-placed, whole-end}
 use Rattle.program.specs.Inner.Days.{PutWithin}
 
@@ -28,10 +27,6 @@ pub record Left (all out : Bytes) (at : ℕ) (rest now : Bytes) (here : ℕ) : T
 
 pub all-left : (all out : Bytes) (at : ℕ) → Left all out at all out at
 all-left all out at = record { end = refl; bytes = refl }
-
-put-none : (now : Bytes) (here : ℕ) → put now here [] ≡ now
-unfolding put
-put-none now here = rw add-zero (take-append-drop here now)
 
 module _ {all out : Bytes} {at : ℕ} where
   -- one piece more is put

@@ -9,13 +9,13 @@ use Rattle.lines.specs.Bytes.{Bytes, line-end}
 use Rattle.lines.specs.Session.{Session, answer}
 use Rattle.lines.specs.Machine.{most-held, after-bytes, printed-along}
 use Rattle.printing.specs.Lines.{put}
+use Rattle.printing.proofs.Puts.{put-none}
 use Rattle.program.specs.declared.session.DayAfter.{DayAfter}
 use Rattle.program.specs.declared.feed.Held.{Held}
 use Rattle.program.specs.declared.feed.State.{State}
 use Rattle.program.specs.Inner.Days.{session-of, GoodDay, line-room, Answered}
 use Rattle.program.specs.Inner.Machines.{held-bytes, machine-of, used-bytes, LineEnds, hold-all, TakenIn}
 use Rattle.program.proofs.Feeding.Along.{part-after, part-printed, line-after, line-printed}
-use Rattle.program.proofs.Feeding.Buffers.{put-none}
 use Rattle.program.proofs.Feeding.Parts.{part-last}
 
 module _
@@ -40,7 +40,7 @@ module _
           end = rw p (omega arith);
           few = omega (arith, l .forward);
           fits = f;
-          bytes = rw p (put-none out at);
+          bytes = rw p (sym (put-none out at));
         }
 
     -- its end is in the chunk, and it is answered

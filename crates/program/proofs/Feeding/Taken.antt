@@ -9,13 +9,14 @@ use Rattle.lists.proofs.Tests.{cmp}
 use Rattle.lines.specs.Bytes.{Bytes}
 use Rattle.lines.specs.Machine.{most-held, Machine, after-bytes, printed-along}
 use Rattle.printing.specs.Lines.{put}
+use Rattle.printing.proofs.Puts.{put-none}
 use Rattle.program.specs.declared.feed.State.{State}
 use Rattle.program.specs.declared.feed.Fed.{Fed}
 use Rattle.program.specs.Inner.Days.{GoodDay, line-room}
 use Rattle.program.specs.Inner.Machines.{machine-of, used-bytes, TakenIn, GoesOn}
 use Rattle.program.proofs.Answering.Pieces.{Left, all-left, fewer-left}
 use Rattle.program.proofs.Feeding.Along.{after-append, printed-append}
-use Rattle.program.proofs.Feeding.Buffers.{put-none, put-length}
+use Rattle.program.proofs.Feeding.Buffers.{put-length}
 use Rattle.program.proofs.Feeding.Parts.{part-none, part-join}
 
 pub taken-none : (k : State) (s : Bytes) (from : ℕ) (out : Bytes) (at : ℕ) → GoodDay (k .day) → k .held .len ≤ most-held → from ≤ length s → at ≤ length out
@@ -33,7 +34,7 @@ taken-none k s from out at g h l f =
       end = rw e (omega arith);
       few = omega arith;
       fits = f;
-      bytes = rw e (put-none out at);
+      bytes = rw e (sym (put-none out at));
     }
 
 module _ {k : State} {s : Bytes} {from : ℕ} {out : Bytes} {at : ℕ} {f : Fed} {mid : Bytes} (a : TakenIn k s from out at f mid) where

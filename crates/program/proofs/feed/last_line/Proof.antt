@@ -7,8 +7,8 @@ use lib.ListN.{length, take}
 use lib.Seq.{length-take-le}
 use Rattle.lines.specs.Session.{Answer}
 use Rattle.printing.specs.Lines.{put}
+use Rattle.printing.proofs.Puts.{put-none}
 use Rattle.program.specs.Inner.Machines.{held-bytes, machine-of}
-use Rattle.program.proofs.Feeding.Buffers.{put-none}
 use Rattle.program.proofs.Feeding.Ending.{last-none, last-begun}
 use Rattle.program.proofs.Feeding.Known.{state-room}
 use Rattle.program.proofs.feed.last_line.Statement.{statement}
@@ -31,7 +31,7 @@ returns c =
       session = sym (ap (λ (x : Answer). x .session) e);
       end = rw e (omega arith);
       within = omega arith;
-      bytes = rw e (put-none (a .out .now) (a .at));
+      bytes = rw e (sym (put-none (a .out .now) (a .at)));
     }
 
 array-share-prefix-bytes : tie.Need-array-share-prefix-bytes
