@@ -2,9 +2,11 @@
 use mathlib.Core.Path.{_≡_, refl, sym, ap, _∙_}
 use mathlib.Core.Bool.{Bool, true, false, _&&_, _||_, cond}
 use mathlib.Core.List.{List, [], _∷_, _++_, map, List·Memᴰ, List·Memᴰ·head, List·Memᴰ·tail}
-use Prim.Native.Nat.{_+_, _≤_}
+use Prim.Native.Nat.{ℕ, suc, _+_, _-_, _≤_, min}
 use native.Mathlib.Omega.{arith}
+use lib.Dec.{leb}
 use lib.ListN.{length}
+use borrow.Author.Tests.{leb-true, leb-false}
 use Rattle.lists.specs.Select.{one-if, select, how-many, has}
 use Rattle.lists.proofs.Tests.{never}
 
@@ -104,3 +106,12 @@ pub count-map : {A B : Type 0} (f : A → B) (p : B → Bool) (l : List A) → h
 unfolding how-many
 count-map f p [] = refl
 count-map f p (a ∷ l) = ap (λ n. one-if (p (f a)) + n) (count-map f p l)
+
+-- a test of order, as a number
+pub one-leb : (s l : ℕ) → one-if (leb s l) ≡ min 1 (suc l - s)
+unfolding one-if
+one-leb s l = go (leb s l) refl
+  where
+    go : (b : Bool) → leb s l ≡ b → one-if b ≡ min 1 (suc l - s)
+    go true e = omega (arith, leb-true s l e)
+    go false e = omega (arith, leb-false s l e)

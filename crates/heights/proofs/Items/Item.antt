@@ -1,14 +1,15 @@
 -- Jobs as items, each with a last slot and a grade, and lists of them: how many have last slot at least s, as a part; one item less; what holds of each.
 use mathlib.Core.Path.{_≡_, refl}
-use mathlib.Core.Bool.{Bool, true, false}
+use mathlib.Core.Bool.{Bool}
 use mathlib.Core.List.{List, [], _∷_, _++_}
 use Prim.Native.Nat.{ℕ, suc, _+_, _-_, _≤_, _<_, min}
 use native.Mathlib.Omega.{arith}
 use lib.Dec.{leb}
 use lib.ListN.{length}
-use borrow.Author.Tests.{leb-true, leb-false}
 use Rattle.lists.proofs.Less.{Less, here, there}
 use Rattle.heights.proofs.Heights.Part.{Part, _⊕_, Same, Out}
+use Rattle.lists.specs.Select.{one-if}
+use Rattle.lists.proofs.Counting.{one-leb}
 
 pub record Item : Type 0 where
   pub last : ℕ
@@ -18,22 +19,10 @@ pub record Item : Type 0 where
 abbrev pub Bits : ℕ → Item → Type 0
 Bits d p = length (p .grade) ≡ d
 
-unfoldable pub one-if : Bool → ℕ
-one-if true = 1
-one-if false = 0
-
 -- how many have last slot at least s
 unfoldable pub count : List Item → ℕ → ℕ
 count [] s = 0
 count (p ∷ A) s = one-if (leb s (p .last)) + count A s
-
-one-leb : (s l : ℕ) → one-if (leb s l) ≡ min 1 (suc l - s)
-unfolding one-if
-one-leb s l = go (leb s l) refl
-  where
-    go : (b : Bool) → leb s l ≡ b → one-if b ≡ min 1 (suc l - s)
-    go true e = omega (arith, leb-true s l e)
-    go false e = omega (arith, leb-false s l e)
 
 pub count-nil : (s : ℕ) → count [] s ≡ 0
 unfolding count

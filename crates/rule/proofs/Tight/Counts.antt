@@ -1,32 +1,24 @@
 -- The counts of a list of jobs as a part: how many have a last slot of at least s.
 use mathlib.Core.Path.{_≡_, refl, ap, _∙_}
-use mathlib.Core.Bool.{Bool, true, false, _&&_}
+use mathlib.Core.Bool.{_&&_}
 use mathlib.Core.Logic.{_⊎_, inl, inr}
 use mathlib.Core.List.{List, [], _∷_, List·Memᴰ, List·Memᴰ·head, List·Memᴰ·tail}
 use Prim.Native.Nat.{ℕ, suc, _+_, _-_, _≤_, _<_, min}
 use native.Mathlib.Omega.{arith}
 use lib.Dec.{leb}
 use lib.ListN.{length}
-use borrow.Author.Tests.{leb-true, leb-false, le-leb}
+use borrow.Author.Tests.{leb-true, le-leb}
 use Rattle.heights.proofs.Heights.Part.{Part, Same}
-use Rattle.lists.specs.Select.{one-if, select, how-many}
+use Rattle.lists.specs.Select.{select, how-many}
 use Rattle.lists.proofs.Tests.{cmp, and-right, and-intro, same-test}
 use Rattle.lists.proofs.Members.{select-mem}
-use Rattle.lists.proofs.Counting.{count-cong, count-in-selection}
+use Rattle.lists.proofs.Counting.{one-leb, count-cong, count-in-selection}
 use Rattle.rule.specs.Job.{Job, laxity, in-date}
 use Rattle.rule.proofs.Tight.Excess.{up-to}
 
 -- how many jobs have a last slot of at least s
 abbrev pub from-on : List Job → ℕ → ℕ
 from-on A s = how-many (λ (r : Job). leb s (r .last)) A
-
-one-leb : (s l : ℕ) → one-if (leb s l) ≡ min 1 (suc l - s)
-unfolding one-if
-one-leb s l = go (leb s l) refl
-  where
-    go : (b : Bool) → leb s l ≡ b → one-if b ≡ min 1 (suc l - s)
-    go true e = omega (arith, leb-true s l e)
-    go false e = omega (arith, leb-false s l e)
 
 pub from-on-cons : (r : Job) (A : List Job) (s : ℕ) → from-on (r ∷ A) s ≡ min 1 (suc (r .last) - s) + from-on A s
 unfolding how-many
