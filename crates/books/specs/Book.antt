@@ -25,11 +25,11 @@ closings (enter t w g ∷ cs) = closings cs
 closings (end-slot ∷ cs) = suc (closings cs)
 
 -- the slots closed in a book, and the book's slot
-unfoldable pub closed : Book → ℕ
-closed B = closings (B .changes)
+unfoldable pub slots-closed : Book → ℕ
+slots-closed B = closings (B .changes)
 
 unfoldable pub present : Book → ℕ
-present B = B .beginning .slot + closed B
+present B = B .beginning .slot + slots-closed B
 
 -- 'with the book's slot as admitted slot': the jobs that the changes enter, from a slot on
 unfoldable pub entered : ℕ → List Change → List Job

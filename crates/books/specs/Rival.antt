@@ -9,7 +9,7 @@ use Rattle.lists.specs.Select.{every}
 use Rattle.lists.specs.Rise.{rise}
 use Rattle.rule.specs.Job.{Job}
 use Rattle.rule.specs.Grade.{graded}
-use Rattle.books.specs.Book.{Beginning, Change, enter, end-slot, Book, closed}
+use Rattle.books.specs.Book.{Beginning, Change, enter, end-slot, Book, slots-closed}
 use Rattle.books.specs.Schedule.{Schedule, IsSchedule, baked-in, total}
 use Rattle.books.specs.Rule.{Rule, made-by}
 
@@ -41,13 +41,13 @@ begun S b =
 -- a book on which rules are tried
 pub record Tried (S : Setting) (B : Book) : Type 0 where
   pub beginning : S .begins (B .beginning) ≡ true
-  pub present : begun S (B .beginning) ≡ true
+  pub at-first : begun S (B .beginning) ≡ true
   pub later : lifted S (B .beginning .highest) (B .changes) ≡ true
 
 -- 'It is a rival when on every such book, for every k up to the slots closed, no plan bakes more in the first k slots.'
 unfoldable pub Rival : Setting → Rule → Type 0
 Rival S q =
-    (B : Book) → Tried S B → (k : ℕ) → k ≤ closed B → (p : Schedule) → IsSchedule B p
+    (B : Book) → Tried S B → (k : ℕ) → k ≤ slots-closed B → (p : Schedule) → IsSchedule B p
     → total B p k ≤ total B (made-by q (S .depth) B) k
 
 -- 'A start is j bits, j from 0 to D − 1; its count is the racks baked in the first k slots whose grade starts with those j bits and then a 0.'
@@ -57,7 +57,7 @@ count-of d u B p k = baked-in (graded d (u ++ (false ∷ []))) B p k
 -- on the book B, for every k and every start of j bits, p has no larger count than q
 unfoldable pub NoLarger : Setting → ℕ → Book → Schedule → Schedule → Type 0
 NoLarger S j B p q =
-    (u : List Bool) → length u ≡ j → (k : ℕ) → k ≤ closed B → count-of (S .depth) u B p k ≤ count-of (S .depth) u B q k
+    (u : List Bool) → length u ≡ j → (k : ℕ) → k ≤ slots-closed B → count-of (S .depth) u B p k ≤ count-of (S .depth) u B q k
 
 -- 'All rivals have level 0. A rival of level j has level j + 1 too when, on every book with the limits lifted, for every k and every start
 -- of j bits, no rival of level j has a larger count.'

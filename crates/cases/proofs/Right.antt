@@ -5,7 +5,7 @@ use Prim.Native.Nat.{ℕ, suc, _-_}
 use lib.Dec.{eqb}
 use lib.ListN.{length, replicate}
 use Rattle.rule.specs.Job.{Job}
-use Rattle.books.specs.Book.{closed}
+use Rattle.books.specs.Book.{slots-closed}
 use Rattle.books.specs.Schedule.{total}
 use Rattle.board.specs.declared.Place.{Place}
 use Rattle.board.specs.declared.Board.{Board}
@@ -68,7 +68,7 @@ totals b cs k (n ∷ ns) = total (book-of b cs) (our-plan b cs) k ∷ totals b c
 unfoldable pub book-right : (depth slot highest : ℕ) → List Call → List (List ℕ) → List ℕ → Bool
 book-right d k h cs told most =
     let b = empty-board d k h in
-    same-all (answers b cs) told && eqb (suc (closed (book-of b cs))) (length most) && same (totals b cs 0 most) most
+    same-all (answers b cs) told && eqb (suc (slots-closed (book-of b cs))) (length most) && same (totals b cs 0 most) most
 
 -- a day's input and output
 unfoldable pub day-right : List ℕ → List ℕ → Bool

@@ -4,7 +4,7 @@ use mathlib.Core.Bool.{Bool, true}
 use mathlib.Core.List.{List}
 use Prim.Native.Nat.{ℕ, _≤_, _<_}
 use lib.ListN.{length}
-use Rattle.books.specs.Book.{Beginning, Book, closed}
+use Rattle.books.specs.Book.{Beginning, Book, slots-closed}
 use Rattle.books.specs.Schedule.{Schedule, IsSchedule, total}
 use Rattle.books.specs.Rule.{Rule, made-by}
 use Rattle.books.specs.Rival.{Setting, Level, count-of}
@@ -28,12 +28,12 @@ pub record Unbeaten (b : Board) (cs : List Call) : Type 0 where
   -- our answers are a plan of the day book
   pub plan : IsSchedule (book-of b cs) (our-plan b cs)
   -- 'no plan bakes more in the first k slots'
-  pub totals : (p : Schedule) → IsSchedule (book-of b cs) p → (k : ℕ) → k ≤ closed (book-of b cs)
+  pub totals : (p : Schedule) → IsSchedule (book-of b cs) p → (k : ℕ) → k ≤ slots-closed (book-of b cs)
       → total (book-of b cs) p k ≤ total (book-of b cs) (our-plan b cs) k
   -- 'on the list's day book, for every start of j bits and every k up to the slots closed, our board's count is at least that of every rival of level j'
   pub grades : (begins : Beginning → Bool) → begins (book-of b cs .beginning) ≡ true → (j : ℕ) → j < b .depth
       → (r : Rule) → Level (setting b begins) j r
-      → (u : List Bool) → length u ≡ j → (k : ℕ) → k ≤ closed (book-of b cs)
+      → (u : List Bool) → length u ≡ j → (k : ℕ) → k ≤ slots-closed (book-of b cs)
       → count-of (b .depth) u (book-of b cs) (made-by r (b .depth) (book-of b cs)) k ≤ count-of (b .depth) u (book-of b cs) (our-plan b cs) k
 
 -- 'every list of admittings and closings on one board [..] starts from any sound board with no racks'

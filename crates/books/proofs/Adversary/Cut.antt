@@ -42,7 +42,7 @@ module _ (S : Setting) (q : Rule) (b : Beginning) (pre post : List Change) (T : 
   before = lifted-append S (b .highest) pre (end-slot ∷ post) (T .later) .0
 
   pub cut-left : Left (raised (b .highest) pre) (left-at q (S .depth) b pre)
-  cut-left = left-there S q (S .depth) b [] (b .slot) (b .jobs) pre (b .highest) (begun-left S b (T .present)) before
+  cut-left = left-there S q (S .depth) b [] (b .slot) (b .jobs) pre (b .highest) (begun-left S b (T .at-first)) before
 
   pub cut-fit : AllFit S (left-at q (S .depth) b pre)
-  cut-fit = fit-there S q (S .depth) b [] (b .slot) (b .jobs) pre (b .highest) (begun-fit S b (T .present)) before
+  cut-fit = fit-there S q (S .depth) b [] (b .slot) (b .jobs) pre (b .highest) (begun-fit S b (T .at-first)) before

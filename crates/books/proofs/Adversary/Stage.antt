@@ -8,7 +8,7 @@ use native.Mathlib.Omega.{arith}
 use lib.ListN.{length}
 use Rattle.lists.specs.Select.{one-if}
 use Rattle.rule.specs.Job.{Job}
-use Rattle.books.specs.Book.{Beginning, Change, end-slot, Book, closed, closings, raised}
+use Rattle.books.specs.Book.{Beginning, Change, end-slot, Book, slots-closed, closings, raised}
 use Rattle.books.specs.Schedule.{baked-in}
 use Rattle.books.specs.Rule.{Rule, valid, without, made-by}
 use Rattle.books.specs.Rival.{Setting, lifted, Tried}
@@ -37,12 +37,12 @@ unfolding lifted
 staged-tried S b pre post E T e =
     record {
       beginning = T .beginning;
-      present = T .present;
+      at-first = T .at-first;
       later = lifted-join S (b .highest) pre (end-slot ∷ E) (lifted-append S (b .highest) pre (end-slot ∷ post) (T .later) .0) e;
     }
 
-pub staged-closed : (b : Beginning) (pre E : List Change) → closed (staged b pre E) ≡ closings pre + suc (closings E)
-unfolding closed closings
+pub staged-closed : (b : Beginning) (pre E : List Change) → slots-closed (staged b pre E) ≡ closings pre + suc (closings E)
+unfolding slots-closed closings
 staged-closed b pre E = closings-append pre (end-slot ∷ E)
 
 module _ (r : Rule) (d : ℕ) (b : Beginning) (pre : List Change) where

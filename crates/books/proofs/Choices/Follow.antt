@@ -77,4 +77,4 @@ pub follow-keeps : (S : Setting) (j n : ℕ) (q : Rule) → j ≤ S .depth → K
 unfolding Keeps
 follow-keeps S j n q k a B T =
     follow-along S j (S .depth) (B .beginning) k n q [] (B .beginning .slot) (B .beginning .jobs) (B .changes) (B .beginning .highest)
-    (begun-left S (B .beginning) (T .present)) (T .later) (reached-start (follow n q) (S .depth) (B .beginning)) (a B T)
+    (begun-left S (B .beginning) (T .at-first)) (T .later) (reached-start (follow n q) (S .depth) (B .beginning)) (a B T)

@@ -49,7 +49,7 @@ pub choice-keeps : (S : Setting) (j : ℕ) (f : Choice)
 unfolding Keeps
 choice-keeps S j f k B T =
     let b = B .beginning in
-    kept-from S j (S .depth) b f [] (b .slot) (b .jobs) (B .changes) (b .highest) (begun-left S b (T .present)) (T .later) (reached-start f (S .depth) b)
+    kept-from S j (S .depth) b f [] (b .slot) (b .jobs) (B .changes) (b .highest) (begun-left S b (T .at-first)) (T .later) (reached-start f (S .depth) b)
     (record { at = λ more t h L l. k b more t h L l })
 
 -- ours keeps to the no-regret sets of every order

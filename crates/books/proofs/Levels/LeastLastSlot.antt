@@ -61,7 +61,7 @@ board-4 = record { beginning = record { slot = 1; highest = 0; jobs = [] }; chan
 
 tried-4 : Tried (paper-setting 1) board-4
 unfolding board-4 paper-setting lifted any-laxity begun fit rise every
-tried-4 = record { beginning = refl; present = refl; later = refl }
+tried-4 = record { beginning = refl; at-first = refl; later = refl }
 
 -- it bakes the 1/1 there, which is not of order 1
 pub least-last-not-level1 : ¬ Level (paper-setting 1) 1 least-last-rule

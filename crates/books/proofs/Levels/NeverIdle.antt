@@ -32,4 +32,4 @@ never-idle S q R B T =
     let d = S .depth in
     let b = B .beginning in
     each-weaker S q d b (keeps-at 0 d) busy-at (λ s h left x l e. busy d s h left x l (kept 0 d s h left x l e)) [] (b .slot) (b .jobs) (B .changes) (b .highest)
-    (begun-left S b (T .present)) (T .later) (unfold Keeps in rival-keeps S q R B T)
+    (begun-left S b (T .at-first)) (T .later) (unfold Keeps in rival-keeps S q R B T)

@@ -5,14 +5,14 @@ use mathlib.Core.List.{List}
 use Prim.Native.Nat.{ℕ, suc, _≤_, _<_}
 use native.Mathlib.Omega.{arith}
 use lib.ListN.{length}
-use Rattle.books.specs.Book.{Book, closed}
+use Rattle.books.specs.Book.{Book, slots-closed}
 use Rattle.books.specs.Schedule.{Schedule, IsSchedule, total}
 use Rattle.books.specs.Rule.{Rule, made-by}
 use Rattle.books.specs.Rival.{Setting, Tried, Rival, count-of, NoLarger, Level}
 use Rattle.books.specs.NoRegretRule.{our-rule}
 use Rattle.books.proofs.Levels.Characterised.{characterised}
 
-module _ (S : Setting) (B : Book) (T : Tried S B) (k : ℕ) (h : k ≤ closed B) where
+module _ (S : Setting) (B : Book) (T : Tried S B) (k : ℕ) (h : k ≤ slots-closed B) where
   abbrev ours : Schedule
   ours = made-by our-rule (S .depth) B
 

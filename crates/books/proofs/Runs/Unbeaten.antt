@@ -29,7 +29,7 @@ unfolding Rival Keeps total
 keeps-rival S q a B T k h p P =
     let d = S .depth in
     let b = B .beginning in
-    let l = begun-left S b (T .present) in
+    let l = begun-left S b (T .at-first) in
     omega (
       arith,
       no-schedule-more
@@ -49,7 +49,7 @@ unfolding NoLarger Keeps count-of
 keeps-better S j i q r a c B T u e k h =
     let d = S .depth in
     let b = B .beginning in
-    let l = begun-left S b (T .present) in
+    let l = begun-left S b (T .at-first) in
     let v = u ++ (false ∷ []) in
     omega (
       arith,
@@ -68,4 +68,4 @@ keeps-wider S j q i a B T =
     let d = S .depth in
     let b = B .beginning in
     each-weaker S q d b (keeps-at (suc j) d) (keeps-at j d) (λ s h left x l e. kept-at j d s left x (kept-wider j d s left x i (kept (suc j) d s h left x l e))) []
-    (b .slot) (b .jobs) (B .changes) (b .highest) (begun-left S b (T .present)) (T .later) (a B T)
+    (b .slot) (b .jobs) (B .changes) (b .highest) (begun-left S b (T .at-first)) (T .later) (a B T)

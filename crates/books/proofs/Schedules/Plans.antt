@@ -109,7 +109,7 @@ module _ (S : Setting) (B : Book) (T : Tried S B) (q : Rule) (d : ℕ) where
   admitted-before x m =
       leb-true (x .admitted) (b .slot)
       (and-right (leb (x .ticket) (b .highest) && fit S (x .grade)) (leb (x .admitted) (b .slot))
-      (every-mem here (and-right (rise 0 (tickets (b .jobs))) (every here (b .jobs)) (unfold begun in T .present)) m))
+      (every-mem here (and-right (rise 0 (tickets (b .jobs))) (every here (b .jobs)) (unfold begun in T .at-first)) m))
     where
       here : Job → Bool
       here r = leb (r .ticket) (b .highest) && fit S (r .grade) && leb (r .admitted) (b .slot)
@@ -158,7 +158,7 @@ module _ (S : Setting) (B : Book) (T : Tried S B) (q : Rule) (d : ℕ) where
           let g = given s h in
           let k = given t (λ z. h (e ∙ z)) in
           let i =
-          picks-once S q d b [] (b .slot) (b .jobs) (B .changes) (b .highest) (begun-left S b (T .present)) (T .later) (g .i) (k .i) (g .r) (k .r) (g .pick) (k .pick)
+          picks-once S q d b [] (b .slot) (b .jobs) (B .changes) (b .highest) (begun-left S b (T .at-first)) (T .later) (g .i) (k .i) (g .r) (k .r) (g .pick) (k .pick)
           (sym (g .ticket) ∙ e ∙ k .ticket)
           in
           omega (arith, g .at, k .at)

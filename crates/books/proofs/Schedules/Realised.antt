@@ -15,7 +15,7 @@ use Rattle.lists.proofs.Tests.{never, and-intro}
 use Rattle.lists.proofs.Members.{mem-has}
 use Rattle.rule.specs.Job.{Job, job, in-date}
 use Rattle.rule.specs.Bake.{ticket-of}
-use Rattle.books.specs.Book.{Beginning, Change, enter, end-slot, Book, closed, closings, jobs, entered}
+use Rattle.books.specs.Book.{Beginning, Change, enter, end-slot, Book, slots-closed, closings, jobs, entered}
 use Rattle.books.specs.Schedule.{Schedule, IsSchedule, gives, baked-in}
 use Rattle.books.specs.Rule.{Rule, valid, without}
 use Rattle.books.specs.Rival.{Setting, lifted, Tried}
@@ -154,14 +154,14 @@ module _ (S : Setting) (B : Book) (T : Tried S B) (p : Schedule) (P : IsSchedule
       record {
         slot = unfold closings in omega arith;
         highest = b .highest;
-        rising = begun-left S b (T .present);
+        rising = begun-left S b (T .at-first);
         coming = T .later;
         within = λ x m. unfold jobs in m;
         wanted = λ x m j h z e. unfold jobs in m;
       }
 
   -- what the schedule bakes is what the rule bakes
-  pub realised : (test : Job → Bool) (k : ℕ) → k ≤ closed B → baked-in test B p k ≡ tally test (picks-on (following p) d B) k
+  pub realised : (test : Job → Bool) (k : ℕ) → k ≤ slots-closed B → baked-in test B p k ≡ tally test (picks-on (following p) d B) k
   unfolding baked-in
   realised test zero h = sym (tally-none test (picks-on (following p) d B))
   realised test (suc k) h =
@@ -169,5 +169,5 @@ module _ (S : Setting) (B : Book) (T : Tried S B) (p : Schedule) (P : IsSchedule
         arith,
         realised test k (omega arith),
         tally-last test (picks-on (following p) d B) k,
-        ap one-if (each-slot test [] (b .slot) (b .jobs) (B .changes) start k (unfold closed in h)),
+        ap one-if (each-slot test [] (b .slot) (b .jobs) (B .changes) start k (unfold slots-closed in h)),
       )

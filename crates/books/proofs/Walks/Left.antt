@@ -98,6 +98,6 @@ begun-left S b e =
 pub jobs-rising : (S : Setting) (B : Book) → Tried S B → Rising 0 (jobs B)
 unfolding jobs
 jobs-rising S B T =
-    let l = begun-left S (B .beginning) (T .present) in
+    let l = begun-left S (B .beginning) (T .at-first) in
     rising-append (B .beginning .highest) (B .beginning .jobs) (entered (B .beginning .slot) (B .changes)) (l .rising) (l .most) (omega arith)
     (entered-rising S (B .beginning .highest) (B .beginning .slot) (B .changes) (T .later))

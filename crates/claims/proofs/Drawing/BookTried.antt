@@ -59,6 +59,6 @@ module _ (b : Board) (begins : Beginning → Bool) where
   book-tried cs h =
       record {
         beginning = h;
-        present = ap (λ (B : Book). begun (setting b begins) (B .beginning)) (book-added b cs);
+        at-first = ap (λ (B : Book). begun (setting b begins) (B .beginning)) (book-added b cs);
         later = drawn-lifted (first-book b) cs refl;
       }

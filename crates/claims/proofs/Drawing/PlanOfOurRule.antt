@@ -4,7 +4,7 @@ use mathlib.Core.Bool.{true}
 use mathlib.Core.List.{List, [], List·Memᴰ·not-nil}
 use native.Mathlib.Omega.{arith}
 use Rattle.lists.specs.Select.{select, how-many}
-use Rattle.books.specs.Book.{Book, closings, closed, present, entered, jobs, raised, highest}
+use Rattle.books.specs.Book.{Book, closings, slots-closed, present, entered, jobs, raised, highest}
 use Rattle.books.specs.Schedule.{from-slot}
 use Rattle.books.specs.Rule.{choices, made-by}
 use Rattle.books.specs.NoRegretRule.{our-choice, our-rule}
@@ -33,7 +33,7 @@ book-added b cs = drawn-added (b .depth) (first-book b) cs
 
 module _ (b : Board) (s : sound b ≡ true) (empty : b .count ≡ 0) where
   agree-first : Agree (b .depth) (slot-of b) b (first-book b) []
-  unfolding new-book present closed closings highest raised jobs entered select how-many
+  unfolding new-book present slots-closed closings highest raised jobs entered select how-many
   agree-first =
       record {
         is-sound = s;
