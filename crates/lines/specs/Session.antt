@@ -72,15 +72,15 @@ answer-close s b i =
     (refused s i (r .refusal))
 
 -- An answer on the board that is open. While none is, row 15 refuses every line that is for an open one (proofs/InTurn): the first case is never used.
-unfoldable pub on-board : Session → Option Board → (Board → Answer) → Answer
-on-board s none f = record { output = []; session = s }
-on-board s (some b) f = f b
+unfoldable pub when-open : Session → Option Board → (Board → Answer) → Answer
+when-open s none f = record { output = []; session = s }
+when-open s (some b) f = f b
 
 -- a request that rows 11 to 15 let through
 unfoldable pub answer-request : Session → Option Board → (line : ℕ) → Request → Answer
 answer-request s o i (open-board d) = answer-open s i d
-answer-request s o i (admit-job t w g) = on-board s o (λ b. answer-admit s b i t w g)
-answer-request s o i close-slot = on-board s o (λ b. answer-close s b i)
+answer-request s o i (admit-job t w g) = when-open s o (λ b. answer-admit s b i t w g)
+answer-request s o i close-slot = when-open s o (λ b. answer-close s b i)
 
 -- 'the line rows, 11 to 15, come before those of the call that the line makes'
 unfoldable pub answer-if : ℕ → Session → (line : ℕ) → Bytes → Answer

@@ -7,8 +7,8 @@ use Rattle.rule.specs.Grade.{bits, starts, graded, starting}
 use Rattle.rule.specs.Tight.{laxities, excess, smallest, tight-laxity, tight}
 use Rattle.rule.specs.Descent.{next-bit, descend, no-regret-after, no-regret}
 use Rattle.rule.specs.Bake.{sooner, soonest-of, soonest, baked, expires, stays, ticket-of}
-use Rattle.rule.specs.Worked.{_gives-up_, _/_, table, numbered, tickets, closings, computed, Worked}
+use Rattle.rule.specs.Worked.{_gives-up_, _of-grade_, table, numbered, tickets, closings, computed, Worked}
 
 pub worked : Worked
-unfolding Worked computed closings tickets numbered table _/_ _gives-up_ ticket-of select every has how-many one-if least least-from job laxity in-date bits starts graded starting laxities excess smallest tight-laxity tight next-bit descend no-regret-after no-regret sooner soonest-of soonest baked expires stays
+unfolding Worked computed closings tickets numbered table _of-grade_ _gives-up_ ticket-of select every has how-many one-if least least-from job laxity in-date bits starts graded starting laxities excess smallest tight-laxity tight next-bit descend no-regret-after no-regret sooner soonest-of soonest baked expires stays
 worked = refl

@@ -12,11 +12,11 @@ use Rattle.rule.specs.Bake.{baked, expires, stays, ticket-of}
 -- a closing: the ticket baked (0 for 'empty') and the tickets given up
 pub record Closing : Type 0 where
   pub ticket : ℕ
-  pub gone : List ℕ
+  pub given-up : List ℕ
 
 infix 90 _gives-up_
 unfoldable pub _gives-up_ : ℕ → List ℕ → Closing
-t gives-up ts = record { ticket = t; gone = ts }
+t gives-up ts = record { ticket = t; given-up = ts }
 
 -- what 01 says of a board: the excess of a wait, l* with the tight set's tickets, and the first closings
 pub data Fact : Type 0 where
@@ -24,14 +24,14 @@ pub data Fact : Type 0 where
   tight-is : (l : ℕ) (tickets : List ℕ) → Fact
   closes : List Closing → Fact
 
--- 'Written as wait/grade'
+-- 'Written as wait/grade': a wait and a grade
 pub record Waiting : Type 0 where
   pub wait : ℕ
   pub grade : ℕ
 
-infix 90 _/_
-unfoldable pub _/_ : ℕ → ℕ → Waiting
-w / g = record { wait = w; grade = g }
+infix 90 _of-grade_
+unfoldable pub _of-grade_ : ℕ → ℕ → Waiting
+w of-grade g = record { wait = w; grade = g }
 
 -- a board and what 01 says of it
 pub record WorkedBoard : Type 0 where
@@ -44,27 +44,27 @@ table =
     -- 1: excess 1, 2, 1, 2 at 3, 5, 7, 9; l* is 3, two racks tight
     record {
       depth = 0;
-      waiting = 3 / 0 ∷ 3 / 0 ∷ 5 / 0 ∷ 7 / 0 ∷ 7 / 0 ∷ 7 / 0 ∷ 9 / 0 ∷ [];
+      waiting = 3 of-grade 0 ∷ 3 of-grade 0 ∷ 5 of-grade 0 ∷ 7 of-grade 0 ∷ 7 of-grade 0 ∷ 7 of-grade 0 ∷ 9 of-grade 0 ∷ [];
       facts = excess-is 3 (pos 1) ∷ excess-is 5 (pos 2) ∷ excess-is 7 (pos 1) ∷ excess-is 9 (pos 2) ∷ tight-is 3 (1 ∷ 2 ∷ []) ∷ [];
     }
     -- 2: grade 1 is baked first, then grade 0
-    ∷ record { depth = 1; waiting = 1 / 1 ∷ 2 / 0 ∷ []; facts = closes (1 gives-up [] ∷ 2 gives-up [] ∷ []) ∷ [] }
+    ∷ record { depth = 1; waiting = 1 of-grade 1 ∷ 2 of-grade 0 ∷ []; facts = closes (1 gives-up [] ∷ 2 gives-up [] ∷ []) ∷ [] }
     -- 3: grade 0 is baked, grade 1 given up
-    ∷ record { depth = 1; waiting = 1 / 1 ∷ 1 / 0 ∷ []; facts = closes (2 gives-up (1 ∷ []) ∷ []) ∷ [] }
+    ∷ record { depth = 1; waiting = 1 of-grade 1 ∷ 1 of-grade 0 ∷ []; facts = closes (2 gives-up (1 ∷ []) ∷ []) ∷ [] }
     -- 4: grade 0, then the 2/1
-    ∷ record { depth = 1; waiting = 1 / 1 ∷ 2 / 1 ∷ 2 / 0 ∷ []; facts = closes (3 gives-up (1 ∷ []) ∷ 2 gives-up [] ∷ []) ∷ [] }
+    ∷ record { depth = 1; waiting = 1 of-grade 1 ∷ 2 of-grade 1 ∷ 2 of-grade 0 ∷ []; facts = closes (3 gives-up (1 ∷ []) ∷ 2 gives-up [] ∷ []) ∷ [] }
     -- 5: grade 0 (lower ticket), then 1, then 0
-    ∷ record { depth = 1; waiting = 2 / 1 ∷ 3 / 0 ∷ 3 / 0 ∷ []; facts = closes (2 gives-up [] ∷ 1 gives-up [] ∷ 3 gives-up [] ∷ []) ∷ [] }
+    ∷ record { depth = 1; waiting = 2 of-grade 1 ∷ 3 of-grade 0 ∷ 3 of-grade 0 ∷ []; facts = closes (2 gives-up [] ∷ 1 gives-up [] ∷ 3 gives-up [] ∷ []) ∷ [] }
     -- 6: the 1/2 first
-    ∷ record { depth = 2; waiting = 2 / 1 ∷ 1 / 2 ∷ 3 / 0 ∷ []; facts = closes (2 gives-up [] ∷ []) ∷ [] }
+    ∷ record { depth = 2; waiting = 2 of-grade 1 ∷ 1 of-grade 2 ∷ 3 of-grade 0 ∷ []; facts = closes (2 gives-up [] ∷ []) ∷ [] }
     -- 7: the 2/1 first, 1/2 given up; then grade 0, then 3
     ∷ record {
       depth = 2;
-      waiting = 2 / 1 ∷ 1 / 2 ∷ 3 / 0 ∷ 3 / 3 ∷ [];
+      waiting = 2 of-grade 1 ∷ 1 of-grade 2 ∷ 3 of-grade 0 ∷ 3 of-grade 3 ∷ [];
       facts = closes (1 gives-up (2 ∷ []) ∷ 3 gives-up [] ∷ 4 gives-up [] ∷ []) ∷ [];
     }
     -- 8: one rack 3/0: it is baked; empty board: empty
-    ∷ record { depth = 1; waiting = 3 / 0 ∷ []; facts = closes (1 gives-up [] ∷ 0 gives-up [] ∷ []) ∷ [] }
+    ∷ record { depth = 1; waiting = 3 of-grade 0 ∷ []; facts = closes (1 gives-up [] ∷ 0 gives-up [] ∷ []) ∷ [] }
     ∷ record { depth = 1; waiting = []; facts = closes (0 gives-up [] ∷ []) ∷ [] }
     ∷ []
 

@@ -11,7 +11,7 @@ use Rattle.lists.proofs.Tests.{never}
 use Rattle.board.specs.declared.Board.{Board}
 use Rattle.lines.specs.Bytes.{Bytes}
 use Rattle.lines.specs.Reading.{line-number, Request, open-board, admit-job, close-slot, request}
-use Rattle.lines.specs.Session.{Session, is-open, refused, on-board, answer-request, answer-if, answer}
+use Rattle.lines.specs.Session.{Session, is-open, refused, when-open, answer-request, answer-if, answer}
 use Rattle.lines.specs.NeverMet.{request-numbers, line-numbers}
 use Rattle.lines.proofs.InTurn.{needs-open, in-turn}
 use Rattle.lines.proofs.NeverMet.Between.{InRun}
@@ -20,7 +20,7 @@ use Rattle.lines.proofs.NeverMet.Calls.{Goes, nothing-given, goes-open,
 module _ (s : Session) (i : ℕ) (h : InRun (s .board) (s .tally)) where
   -- a request while no board is open
   while-none : InRun none (s .tally) → (q : Request) → Goes (request-numbers none (s .tally) q) (answer-request s none i q .session)
-  unfolding request-numbers answer-request on-board InRun
+  unfolding request-numbers answer-request when-open InRun
   while-none z (open-board d) = goes-open s i h z d
   while-none z (admit-job t w g) = nothing-given s h
   while-none z close-slot = nothing-given s h
@@ -28,7 +28,7 @@ module _ (s : Session) (i : ℕ) (h : InRun (s .board) (s .tally)) where
   -- a request for a board that is open
   while-open : (b : Board) → InRun (some b) (s .tally) → (q : Request) → needs-open q ≡ true
       → Goes (request-numbers (some b) (s .tally) q) (answer-request s (some b) i q .session)
-  unfolding needs-open request-numbers answer-request on-board InRun
+  unfolding needs-open request-numbers answer-request when-open InRun
   while-open b r (open-board d) e = never e refl
   while-open b r (admit-job t w g) e = goes-admit s i h b r t w g
   while-open b r close-slot e = goes-close s i h b r

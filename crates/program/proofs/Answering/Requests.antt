@@ -7,7 +7,7 @@ use native.Mathlib.Omega.{arith}
 use Rattle.board.specs.declared.Laxity.{Laxity}
 use Rattle.lines.specs.Bytes.{Bytes}
 use Rattle.lines.specs.Reading.{line-number, Request, open-board, admit-job, close-slot}
-use Rattle.lines.specs.Session.{Session, is-open, refused, answer-open, answer-admit, answer-close, on-board, answer-request, answer-if, answer}
+use Rattle.lines.specs.Session.{Session, is-open, refused, answer-open, answer-admit, answer-close, when-open, answer-request, answer-if, answer}
 use Rattle.lines.proofs.InTurn.{needs-open, in-turn}
 use Rattle.reading.specs.declared.Asked.the-variants.{Open, Admit, Close, Refused}
 use Rattle.reading.specs.Answers.{asked-result, line-result}
@@ -70,11 +70,11 @@ module _ (d : Day) (i : ℕ) (l : Bytes) where
 
   pub line-admits : (t : ℕ) (w : Laxity) (g : ℕ) → asked-result (Admit t w g) ≡ line-result (d .opened) l
       → answer (session-of d) i l ≡ answer-admit (session-of d) (d .board) i t (w .0) g
-  unfolding asked-result answer-request on-board
+  unfolding asked-result answer-request when-open
   line-admits t w g e =
       by-request (admit-job t (w .0) g) e
       ∙ ap (λ o. answer-request (session-of d) o i (admit-job t (w .0) g)) (day-board (open-for-admit (d .opened) l t w g e))
 
   pub line-closes : asked-result Close ≡ line-result (d .opened) l → answer (session-of d) i l ≡ answer-close (session-of d) (d .board) i
-  unfolding asked-result answer-request on-board
+  unfolding asked-result answer-request when-open
   line-closes e = by-request close-slot e ∙ ap (λ o. answer-request (session-of d) o i close-slot) (day-board (open-for-close (d .opened) l e))
