@@ -4,6 +4,7 @@ ghost use Prim.Native.Nat.{_^_, min};
 ghost use Rattle.board.specs.Limits.{longest-laxity, most-in-slot, places-held, last-slot, deepest};
 ghost use Rattle.board.specs.Open.{opened};
 ghost use Rattle.board.specs.Tally.{tally-kinds, tally-grades, tally-most};
+ghost use Rattle.board.specs.Events.{admitted-kind, baked-kind, given-up-kind};
 
 // A number of slots counted from the present one: 01's wait, 000's laxity.
 #[repr(C)]
@@ -117,7 +118,13 @@ pub struct Tally {
 }
 
 impl Tally {
-    // Kinds of events: admitted, baked, given up.
+    // The kinds of events, and how many there are.
+    pub const ADMITTED: u32 = 0;
+
+    pub const BAKED: u32 = 1;
+
+    pub const GIVEN_UP: u32 = 2;
+
     pub const KINDS: usize = 3;
 
     // Grades of the greatest depth.
@@ -143,6 +150,9 @@ fn limits()
     ensures { λ r. do ⌜ (← ⟦Board::PLACES⟧ .entry) ≡ places-held ⌝ }
     ensures { λ r. do ⌜ (← ⟦Board::LAST_SLOT⟧ .entry) ≡ last-slot ⌝ }
     ensures { λ r. do ⌜ (← ⟦Board::DEEPEST⟧ .entry) ≡ deepest ⌝ }
+    ensures { λ r. do ⌜ (← ⟦Tally::ADMITTED⟧ .entry) ≡ admitted-kind ⌝ }
+    ensures { λ r. do ⌜ (← ⟦Tally::BAKED⟧ .entry) ≡ baked-kind ⌝ }
+    ensures { λ r. do ⌜ (← ⟦Tally::GIVEN_UP⟧ .entry) ≡ given-up-kind ⌝ }
     ensures { λ r. do ⌜ (← ⟦Tally::KINDS⟧ .entry) ≡ tally-kinds ⌝ }
     ensures { λ r. do ⌜ (← ⟦Tally::GRADES⟧ .entry) ≡ tally-grades ⌝ }
     ensures { λ r. do ⌜ (← ⟦Tally::MOST⟧ .entry) ≡ tally-most ⌝ }

@@ -18,7 +18,7 @@ use Rattle.board.specs.Close as Close
 use Rattle.claims.specs.Calls.{Call, admit, close, board-after}
 use Rattle.claims.specs.OurPlan.{our-plan}
 use Rattle.claims.specs.Demand3.{book-of}
-use Rattle.lines.specs.Session.{output}
+use Rattle.lines.specs.Output.{output}
 
 -- equal lists of numbers, and lists of these
 unfoldable pub same : List ℕ → List ℕ → Bool

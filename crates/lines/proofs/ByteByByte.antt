@@ -1,8 +1,8 @@
--- The program byte by byte prints the whole output.
+-- Byte by byte a run is answered as the whole input is, and prints its output.
 use mathlib.Core.Path.{_≡_, refl, sym, ap, ap₂, _∙_}
 use mathlib.Core.Bool.{true, false, not, _&&_}
 use mathlib.Core.Logic.{_⊎_, inl, inr}
-use mathlib.Core.List.{[], _∷_, _++_, append-assoc, append-nil}
+use mathlib.Core.List.{List, [], _∷_, _++_, append-assoc, append-nil}
 use Prim.Native.Nat.{ℕ, suc}
 use native.Mathlib.Omega.{arith}
 use lib.Dec.{eqb}
@@ -12,62 +12,86 @@ use Rattle.lists.specs.Select.{every}
 use Rattle.lists.proofs.Tests.{test, cond-true, cond-false}
 use Rattle.lists.proofs.Members.{every-append}
 use Rattle.lines.specs.Bytes.{Bytes, line-end, lines}
-use Rattle.lines.specs.Session.{Session, new-session, answer, at-end, output-from, output}
-use Rattle.lines.specs.Machine.{Machine, new-machine, hold, most-held, printed-by, after-byte, after-bytes, printed-along, printed-at-end, ByteByByte}
+use Rattle.lines.specs.Session.{Session, new-session, Answer, Run, step, run-from, run}
+use Rattle.lines.specs.Output.{printed-answers, at-end, output}
+use Rattle.lines.specs.Machine.{Machine, new-machine, hold, most-held, answered-by, after-byte, after-bytes, answers-along, last-answers, last-session, printed-along, printed-at-end, ByteByByte}
 use Rattle.lines.proofs.Cutting.{one-line, lines-ended, lines-last, lines-none}
-use Rattle.lines.proofs.LongLines.{answer-first, hold-first}
+use Rattle.lines.proofs.LongLines.{step-first, hold-first}
+use Rattle.lines.proofs.Answers.{number-after, printed-joined}
+
+-- answers, and a run behind them
+abbrev onto : List Answer → Run → Run
+onto first r = record { answers = first ++ r .answers; session = r .session }
+
+-- what the end of input makes of a machine
+abbrev ended : Machine → Run
+ended m = record { answers = last-answers m; session = last-session m }
 
 -- reading a line of which the bytes l are there
 abbrev reading : Session → ℕ → Bytes → Machine
 reading s i l = record { session = s; number = i; held = take most-held l }
 
-at-last : (s : Session) (i : ℕ) (l : Bytes) → one-line l ≡ true → output-from s i (lines l) ≡ printed-at-end (reading s i l)
-unfolding output-from printed-at-end most-held
-at-last s i [] h = ap (output-from s i) lines-none
+at-last : (s : Session) (i : ℕ) (l : Bytes) → one-line l ≡ true → run-from s (lines l) ≡ ended (reading s i l)
+unfolding run-from last-answers last-session most-held
+at-last s i [] h = ap (run-from s) lines-none
 at-last s i (c ∷ l) h =
-    ap (output-from s i) (lines-last c l h)
-    ∙ sym (ap (λ a. a .output ++ at-end (a .session .board) (a .session .tally)) (answer-first s i (c ∷ l)))
-    ∙ sym (cond-false (eqb (length (take most-held (c ∷ l))) 0) (at-end (s .board) (s .tally)) _ (ne-eqb (length (take most-held (c ∷ l))) 0 (λ z. omega arith)))
+    let held = take most-held (c ∷ l) in
+    let begun = ne-eqb (length held) 0 (λ z. omega arith) in
+    ap (run-from s) (lines-last c l h)
+    ∙ sym (ap (λ a. record { answers = a .answer ∷ []; session = a .session }) (step-first s (c ∷ l)))
+    ∙ sym (ap₂ (λ (x : List Answer) (t : Session). record { answers = x; session = t })
+    (cond-false (eqb (length held) 0) [] (step s held .answer ∷ []) begun)
+    (cond-false (eqb (length held) 0) s (step s held .session) begun))
 
 along : (s : Session) (i : ℕ) (l bs : Bytes) → one-line l ≡ true
-    → output-from s i (lines (l ++ bs)) ≡ printed-along (reading s i l) bs ++ printed-at-end (after-bytes (reading s i l) bs)
-unfolding printed-along after-bytes printed-by after-byte output-from every most-held
-along s i l [] h = ap (λ (x : Bytes). output-from s i (lines x)) (append-nil l) ∙ at-last s i l h
+    → run-from s (lines (l ++ bs)) ≡ onto (answers-along (reading s i l) bs) (ended (after-bytes (reading s i l) bs))
+unfolding answers-along after-bytes answered-by after-byte run-from every most-held
+along s i l [] h = ap (λ (x : Bytes). run-from s (lines x)) (append-nil l) ∙ at-last s i l h
 along s i l (b ∷ bs) h = go (test (eqb b line-end)) (λ s i l h. along s i l bs h)
   where
     m : Machine
     m = reading s i l
 
     Goal : Type 0
-    Goal = output-from s i (lines (l ++ (b ∷ bs))) ≡ (printed-by m b ++ printed-along (after-byte m b) bs) ++ printed-at-end (after-bytes (after-byte m b) bs)
+    Goal = run-from s (lines (l ++ (b ∷ bs))) ≡ onto (answered-by m b ++ answers-along (after-byte m b) bs) (ended (after-bytes (after-byte m b) bs))
 
     go : (eqb b line-end ≡ true) ⊎ (eqb b line-end ≡ false)
         → ((s : Session) (i : ℕ) (l : Bytes) → one-line l ≡ true
-        → output-from s i (lines (l ++ bs)) ≡ printed-along (reading s i l) bs ++ printed-at-end (after-bytes (reading s i l) bs)) → Goal
+        → run-from s (lines (l ++ bs)) ≡ onto (answers-along (reading s i l) bs) (ended (after-bytes (reading s i l) bs))) → Goal
     go (inl e) ih =
-        let a = answer s i l in
+        let a = step s l in
         let n = reading (a .session) (suc i) [] in
-        let here = answer-first s i l in
+        let here = step-first s l in
         let next : after-byte m b ≡ n =
-        cond-true (eqb b line-end) (record { session = answer s i (take most-held l) .session; number = suc i; held = [] }) (record { session = s; number = i; held = hold b (take most-held l) }) e
+        cond-true (eqb b line-end) (record { session = step s (take most-held l) .session; number = suc i; held = [] }) (record { session = s; number = i; held = hold b (take most-held l) }) e
         ∙ ap (λ x. reading (x .session) (suc i) []) here
         in
-        let out : printed-by m b ≡ a .output = cond-true (eqb b line-end) (answer s i (take most-held l) .output) [] e ∙ ap (λ x. x .output) here in
-        ap (output-from s i) (lines-ended l bs b h e)
-        ∙ ap (a .output ++_) (ih (a .session) (suc i) [] refl)
-        ∙ sym (append-assoc (a .output) (printed-along n bs) (printed-at-end (after-bytes n bs)))
-        ∙ ap₂ (λ (x : Bytes) (k : Machine). (x ++ printed-along k bs) ++ printed-at-end (after-bytes k bs)) (sym out) (sym next)
+        let said : answered-by m b ≡ a .answer ∷ [] = cond-true (eqb b line-end) (step s (take most-held l) .answer ∷ []) [] e ∙ ap (λ x. x .answer ∷ []) here in
+        ap (run-from s) (lines-ended l bs b h e)
+        ∙ ap (onto (a .answer ∷ [])) (ih (a .session) (suc i) [] refl)
+        ∙ ap₂ (λ (x : List Answer) (k : Machine). onto (x ++ answers-along k bs) (ended (after-bytes k bs))) (sym said) (sym next)
     go (inr e) ih =
         let n = reading s i (l ++ (b ∷ [])) in
         let next : after-byte m b ≡ n =
-        cond-false (eqb b line-end) (record { session = answer s i (take most-held l) .session; number = suc i; held = [] }) (record { session = s; number = i; held = hold b (take most-held l) }) e
+        cond-false (eqb b line-end) (record { session = step s (take most-held l) .session; number = suc i; held = [] }) (record { session = s; number = i; held = hold b (take most-held l) }) e
         ∙ ap (λ (x : Bytes). record { session = s; number = i; held = x }) (hold-first b l)
         in
-        let out : printed-by m b ≡ [] = cond-false (eqb b line-end) (answer s i (take most-held l) .output) [] e in
-        ap (λ (x : Bytes). output-from s i (lines x)) (sym (append-assoc l (b ∷ []) bs))
+        let said : answered-by m b ≡ [] = cond-false (eqb b line-end) (step s (take most-held l) .answer ∷ []) [] e in
+        ap (λ (x : Bytes). run-from s (lines x)) (sym (append-assoc l (b ∷ []) bs))
         ∙ ih s i (l ++ (b ∷ [])) (every-append (λ c. not (eqb c line-end)) l (b ∷ []) h (ap (λ c. not c && true) e))
-        ∙ ap₂ (λ (x : Bytes) (k : Machine). (x ++ printed-along k bs) ++ printed-at-end (after-bytes k bs)) (sym out) (sym next)
+        ∙ ap₂ (λ (x : List Answer) (k : Machine). onto (x ++ answers-along k bs) (ended (after-bytes k bs))) (sym said) (sym next)
 
 pub byte-by-byte : ByteByByte
-unfolding ByteByByte output new-machine most-held
-byte-by-byte input = along new-session 1 [] input (unfold every in refl)
+unfolding ByteByByte new-machine run output most-held printed-along printed-at-end
+byte-by-byte input =
+    let m = after-bytes new-machine input in
+    let first = answers-along new-machine input in
+    let whole : run input ≡ onto first (ended m) = along new-session 1 [] input (unfold every in refl) in
+    record {
+      answers = ap (λ (r : Run). r .answers) whole;
+      session = ap (λ (r : Run). r .session) whole;
+      printed = ap (λ (r : Run). printed-answers 1 (r .answers) ++ at-end (r .session .board) (r .session .tally)) whole
+          ∙ ap (λ (x : Bytes). x ++ at-end (last-session m .board) (last-session m .tally))
+          (printed-joined 1 first (last-answers m) (m .number) (number-after new-machine input))
+          ∙ append-assoc (printed-along new-machine input) (printed-answers (m .number) (last-answers m)) (at-end (last-session m .board) (last-session m .tally));
+    }

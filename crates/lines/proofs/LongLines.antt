@@ -12,24 +12,24 @@ use Rattle.board.specs.Rows.{_if_, first-given}
 use Rattle.lists.proofs.Tests.{cmp, cond-true}
 use Rattle.lines.specs.Bytes.{Bytes}
 use Rattle.lines.specs.Reading.{longest-line, too-long, line-rows, line-number}
-use Rattle.lines.specs.Session.{Session, is-open, answer, answer-if}
+use Rattle.lines.specs.Session.{Session, is-open, step, step-if}
 use Rattle.lines.specs.Machine.{hold, most-held}
 
 pub eleven : (opened : Bool) (l : Bytes) → longest-line < length l → line-number opened l ≡ 11
 unfolding line-number line-rows too-long first-given _if_
 eleven opened l h = cond-true (too-long l) 11 _ (lt-ltb longest-line (length l) h)
 
-refused-long : (s : Session) (i : ℕ) (l : Bytes) → longest-line < length l → answer s i l ≡ answer-if 11 s i []
-unfolding answer answer-if
-refused-long s i l h = ap (λ n. answer-if n s i l) (eleven (is-open (s .board)) l h)
+refused-long : (s : Session) (l : Bytes) → longest-line < length l → step s l ≡ step-if 11 s []
+unfolding step step-if
+refused-long s l h = ap (λ n. step-if n s l) (eleven (is-open (s .board)) l h)
 
-pub answer-first : (s : Session) (i : ℕ) (l : Bytes) → answer s i (take most-held l) ≡ answer s i l
+pub step-first : (s : Session) (l : Bytes) → step s (take most-held l) ≡ step s l
 unfolding most-held
-answer-first s i l = go (cmp (length l) most-held)
+step-first s l = go (cmp (length l) most-held)
   where
-    go : (length l ≤ most-held) ⊎ (most-held < length l) → answer s i (take most-held l) ≡ answer s i l
-    go (inl h) = ap (answer s i) (take-all most-held l h)
-    go (inr h) = refused-long s i (take most-held l) (omega (arith, length-take most-held l)) ∙ sym (refused-long s i l (omega arith))
+    go : (length l ≤ most-held) ⊎ (most-held < length l) → step s (take most-held l) ≡ step s l
+    go (inl h) = ap (step s) (take-all most-held l h)
+    go (inr h) = refused-long s (take most-held l) (omega (arith, length-take most-held l)) ∙ sym (refused-long s l (omega arith))
 
 -- a line takes a further byte up to the first that makes it too long
 pub hold-room : (b : ℕ) (l : Bytes) → length l ≤ longest-line → hold b l ≡ l ++ (b ∷ [])

@@ -2,11 +2,10 @@
 use mathlib.Core.Path.{_≡_, refl}
 use mathlib.Core.Bool.{true}
 use mathlib.Core.List.{List, [], _∷_}
-use Prim.Native.Nat.{ℕ, suc}
 use Rattle.lists.specs.Select.{every}
 use Rattle.lists.proofs.Members.{every-append}
 use Rattle.lines.specs.Bytes.{Bytes, lines}
-use Rattle.lines.specs.Session.{Session, new-session, answer}
+use Rattle.lines.specs.Session.{Session, new-session, step}
 use Rattle.lines.specs.NeverMet.{line-numbers, numbers-from, NeverMet}
 use Rattle.lines.proofs.NeverMet.Between.{InRun}
 use Rattle.lines.proofs.NeverMet.MayMeet.{may-meet}
@@ -16,14 +15,14 @@ pub mod MayMeet
 pub mod Calls
 pub mod Lines
 
-along : (s : Session) (i : ℕ) (ls : List Bytes) → InRun (s .board) (s .tally) → every may-meet (numbers-from s i ls) ≡ true
+along : (s : Session) (ls : List Bytes) → InRun (s .board) (s .tally) → every may-meet (numbers-from s ls) ≡ true
 unfolding numbers-from every
-along s i [] h = refl
-along s i (l ∷ ls) h =
-    let line = goes-line s i h l in
-    let next = answer s i l .session in
-    every-append may-meet (line-numbers s l) (numbers-from next (suc i) ls) (line .met) (along next (suc i) ls (line .after))
+along s [] h = refl
+along s (l ∷ ls) h =
+    let line = goes-line s h l in
+    let next = step s l .session in
+    every-append may-meet (line-numbers s l) (numbers-from next ls) (line .met) (along next ls (line .after))
 
 pub never-met : NeverMet
 unfolding NeverMet InRun new-session
-never-met input = along new-session 1 (lines input) refl
+never-met input = along new-session (lines input) refl

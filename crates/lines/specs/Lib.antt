@@ -3,5 +3,6 @@ pub mod Fields
 pub mod Reading
 pub mod Printing
 pub mod Session
+pub mod Output
 pub mod Machine
 pub mod NeverMet

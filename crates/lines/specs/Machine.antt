@@ -1,14 +1,15 @@
--- The program byte by byte: what it holds between two bytes, and what each byte prints. Of a line that is too long no further byte is held: it is
+-- A run byte by byte: what is held between two bytes, and which answers each byte brings. Of a line that is too long no further byte is held: it is
 -- refused whatever it holds.
 use mathlib.Core.Path.{_≡_}
 use mathlib.Core.Bool.{cond}
-use mathlib.Core.List.{[], _∷_, _++_}
+use mathlib.Core.List.{List, [], _∷_, _++_}
 use Prim.Native.Nat.{ℕ, suc}
 use lib.Dec.{eqb}
 use lib.ListN.{length}
 use Rattle.lines.specs.Bytes.{Bytes, line-end}
 use Rattle.lines.specs.Reading.{longest-line, too-long}
-use Rattle.lines.specs.Session.{Session, new-session, answer, at-end, output}
+use Rattle.lines.specs.Session.{Session, new-session, Answer, step, run}
+use Rattle.lines.specs.Output.{printed-answers, at-end, output}
 
 -- the session, the number of the line that is being read, and its bytes so far
 pub record Machine : Type 0 where
@@ -27,14 +28,14 @@ hold b l = cond (too-long l) l (l ++ (b ∷ []))
 unfoldable pub most-held : ℕ
 most-held = suc longest-line
 
--- a byte printed nothing, or ended a line
-unfoldable pub printed-by : Machine → ℕ → Bytes
-printed-by m b = cond (eqb b line-end) (answer (m .session) (m .number) (m .held) .output) []
+-- a byte ends a line, which is answered, or none
+unfoldable pub answered-by : Machine → ℕ → List Answer
+answered-by m b = cond (eqb b line-end) (step (m .session) (m .held) .answer ∷ []) []
 
 unfoldable pub after-byte : Machine → ℕ → Machine
 after-byte m b =
     cond (eqb b line-end)
-    (record { session = answer (m .session) (m .number) (m .held) .session; number = suc (m .number); held = [] })
+    (record { session = step (m .session) (m .held) .session; number = suc (m .number); held = [] })
     (record { session = m .session; number = m .number; held = hold b (m .held) })
 
 -- bytes one after the other
@@ -42,16 +43,29 @@ unfoldable pub after-bytes : Machine → Bytes → Machine
 after-bytes m [] = m
 after-bytes m (b ∷ bs) = after-bytes (after-byte m b) bs
 
+unfoldable pub answers-along : Machine → Bytes → List Answer
+answers-along m [] = []
+answers-along m (b ∷ bs) = answered-by m b ++ answers-along (after-byte m b) bs
+
+-- the end of input ends a line that has begun
+unfoldable pub last-answers : Machine → List Answer
+last-answers m = cond (eqb (length (m .held)) 0) [] (step (m .session) (m .held) .answer ∷ [])
+
+unfoldable pub last-session : Machine → Session
+last-session m = cond (eqb (length (m .held)) 0) (m .session) (step (m .session) (m .held) .session)
+
+-- what the program prints along bytes, and at the end of input
 unfoldable pub printed-along : Machine → Bytes → Bytes
-printed-along m [] = []
-printed-along m (b ∷ bs) = printed-by m b ++ printed-along (after-byte m b) bs
+printed-along m bs = printed-answers (m .number) (answers-along m bs)
 
--- the end of input ends a line that has begun, and prints the tally
 unfoldable pub printed-at-end : Machine → Bytes
-printed-at-end m =
-    let a = answer (m .session) (m .number) (m .held) in
-    cond (eqb (length (m .held)) 0) (at-end (m .session .board) (m .session .tally)) (a .output ++ at-end (a .session .board) (a .session .tally))
+printed-at-end m = printed-answers (m .number) (last-answers m) ++ at-end (last-session m .board) (last-session m .tally)
 
--- bytes one after the other, and then the end of input, print the whole output
+-- bytes one after the other, and then the end of input, are answered as the whole input is, and print its output
+pub record AsTheWhole (input : Bytes) (m : Machine) : Type 0 where
+  pub answers : run input .answers ≡ answers-along new-machine input ++ last-answers m
+  pub session : run input .session ≡ last-session m
+  pub printed : output input ≡ printed-along new-machine input ++ printed-at-end m
+
 unfoldable pub ByteByByte : Type 0
-ByteByByte = (input : Bytes) → output input ≡ printed-along new-machine input ++ printed-at-end (after-bytes new-machine input)
+ByteByByte = (input : Bytes) → AsTheWhole input (after-bytes new-machine input)

@@ -1,8 +1,8 @@
--- A day: what each line prints and leaves, and the whole output.
+-- A day: what each line does. The answer that it gets stands apart from how the answer is printed (Output).
 use mathlib.Core.Bool.{Bool, true, false, cond}
-use mathlib.Core.List.{List, [], _∷_, _++_}
+use mathlib.Core.List.{List, [], _∷_, map}
 use mathlib.Core.Option.{Option, none, some}
-use Prim.Native.Nat.{ℕ, zero, suc, _^_}
+use Prim.Native.Nat.{ℕ, zero, suc}
 use lib.Dec.{eqb}
 use Rattle.rule.specs.Job.{Job}
 use Rattle.board.specs.declared.Board.{Board}
@@ -11,109 +11,113 @@ use Rattle.board.specs.Limits.{places-held}
 use Rattle.board.specs.Open.{opened}
 use Rattle.board.specs.Admit.{admitted}
 use Rattle.board.specs.Close.{closed, given-up}
-use Rattle.board.specs.Tally.{zero-tally, count-at}
-use Rattle.board.specs.Events.{admitted-kind, baked-kind, given-up-kind, admit-events, close-events, fed}
+use Rattle.board.specs.Tally.{zero-tally}
+use Rattle.board.specs.Events.{admit-events, close-events, fed}
 use Rattle.board.specs.Held.{slot-of}
-use Rattle.lines.specs.Bytes.{Bytes, lines, letter-A, letter-B, letter-D, letter-G, letter-R, letter-T}
+use Rattle.lines.specs.Bytes.{Bytes, lines}
 use Rattle.lines.specs.Reading.{line-number, Request, open-board, admit-job, close-slot, request}
-use Rattle.lines.specs.Printing.{printed}
 
 -- the board, if one is open, and the tally
 pub record Session : Type 0 where
   pub board : Option Board
   pub tally : Tally
 
--- what a line prints, and the session after it
-pub record Answer : Type 0 where
-  pub output : Bytes
-  pub session : Session
+unfoldable pub new-session : Session
+new-session = record { board = none; tally = zero-tally }
 
 unfoldable pub is-open : Option Board → Bool
 is-open none = false
 is-open (some b) = true
 
--- 'for a refusal `R,line number from 1,number`'
-unfoldable pub refused : Session → (line number : ℕ) → Answer
-refused s i n = record { output = printed letter-R (i ∷ n ∷ []); session = s }
+-- a job as an answer names it
+pub record Named : Type 0 where
+  pub ticket : ℕ
+  pub grade : ℕ
 
--- `D,depth`
-unfoldable pub answer-open : Session → (line depth : ℕ) → Answer
-answer-open s i d =
+unfoldable pub named : Job → Named
+named r = record { ticket = r .ticket; grade = r .grade }
+
+-- a slot closed: the job baked, or 0 and 0 where the slot stays empty, and the jobs given up
+pub record Closing : Type 0 where
+  pub slot : ℕ
+  pub baked : Named
+  pub given-up : List Named
+
+-- what a line is answered
+pub data Answer : Type 0 where
+  a-refusal : (number : ℕ) → Answer
+  an-opening : (depth : ℕ) → Answer
+  an-admitting : (ticket last : ℕ) → Answer
+  a-closing : Closing → Answer
+
+-- what a line does: its answer, and the session after it
+pub record Step : Type 0 where
+  pub answer : Answer
+  pub session : Session
+
+-- a line that is refused leaves the session as it was
+unfoldable pub step-refused : Session → (number : ℕ) → Step
+step-refused s n = record { answer = a-refusal n; session = s }
+
+-- '`D,depth` opens'
+unfoldable pub step-open : Session → (depth : ℕ) → Step
+step-open s d =
     let r = opened d in
     cond (eqb (r .refusal) 0)
-    (record { output = printed letter-D (d ∷ []); session = record { board = some (r .board); tally = s .tally } })
-    (refused s i (r .refusal))
+    (record { answer = an-opening d; session = record { board = some (r .board); tally = s .tally } })
+    (step-refused s (r .refusal))
 
--- `A,ticket,last slot`
-unfoldable pub answer-admit : Session → Board → (line ticket laxity grade : ℕ) → Answer
-answer-admit s b i t w g =
+-- '`A,ticket,wait,grade` admits'
+unfoldable pub step-admit : Session → Board → (ticket laxity grade : ℕ) → Step
+step-admit s b t w g =
     let r = admitted b t w g in
     cond (eqb (r .refusal) 0)
-    (record {
-      output = printed letter-A (t ∷ r .last .0 ∷ []);
-      session = record { board = some (r .board); tally = fed (s .tally) (admit-events b t w g) };
-    })
-    (refused s i (r .refusal))
+    (record { answer = an-admitting t (r .last .0); session = record { board = some (r .board); tally = fed (s .tally) (admit-events b t w g) } })
+    (step-refused s (r .refusal))
 
--- 'for each of those `G,slot,ticket,grade`'. The lines are here in the board's order; 01 leaves the order open, and compares them as a set.
-unfoldable pub printed-given-up : ℕ → List Job → Bytes
-printed-given-up k [] = []
-printed-given-up k (r ∷ A) = printed letter-G (k ∷ r .ticket ∷ r .grade ∷ []) ++ printed-given-up k A
-
--- `B,slot,ticket,grade,number given up`, then the G lines
-unfoldable pub answer-close : Session → Board → (line : ℕ) → Answer
-answer-close s b i =
+-- '`B` closes the slot'
+unfoldable pub step-close : Session → Board → Step
+step-close s b =
     let r = closed b places-held in
     cond (eqb (r .refusal) 0)
     (record {
-      output = printed letter-B (slot-of b ∷ r .ticket ∷ r .grade ∷ r .expired ∷ []) ++ printed-given-up (slot-of b) (given-up b);
+      answer = a-closing (record { slot = slot-of b; baked = record { ticket = r .ticket; grade = r .grade }; given-up = map named (given-up b) });
       session = record { board = some (r .board); tally = fed (s .tally) (close-events b places-held) };
     })
-    (refused s i (r .refusal))
+    (step-refused s (r .refusal))
 
--- An answer on the board that is open. While none is, row 15 refuses every line that is for an open one (proofs/InTurn): the first case is never used.
-unfoldable pub when-open : Session → Option Board → (Board → Answer) → Answer
-when-open s none f = record { output = []; session = s }
+-- A step on the board that is open. While none is, row 15 refuses every line that is for an open one (proofs/InTurn): the first case is never used.
+unfoldable pub when-open : Session → Option Board → (Board → Step) → Step
+when-open s none f = step-refused s 0
 when-open s (some b) f = f b
 
 -- a request that rows 11 to 15 let through
-unfoldable pub answer-request : Session → Option Board → (line : ℕ) → Request → Answer
-answer-request s o i (open-board d) = answer-open s i d
-answer-request s o i (admit-job t w g) = when-open s o (λ b. answer-admit s b i t w g)
-answer-request s o i close-slot = when-open s o (λ b. answer-close s b i)
+unfoldable pub step-request : Session → Option Board → Request → Step
+step-request s o (open-board d) = step-open s d
+step-request s o (admit-job t w g) = when-open s o (λ b. step-admit s b t w g)
+step-request s o close-slot = when-open s o (λ b. step-close s b)
 
 -- 'the line rows, 11 to 15, come before those of the call that the line makes'
-unfoldable pub answer-if : ℕ → Session → (line : ℕ) → Bytes → Answer
-answer-if zero s i l = answer-request s (s .board) i (request l)
-answer-if (suc n) s i l = refused s i (suc n)
+unfoldable pub step-if : ℕ → Session → Bytes → Step
+step-if zero s l = step-request s (s .board) (request l)
+step-if (suc n) s l = step-refused s (suc n)
 
-unfoldable pub answer : Session → (line : ℕ) → Bytes → Answer
-answer s i l = answer-if (line-number (is-open (s .board)) l) s i l
+unfoldable pub step : Session → Bytes → Step
+step s l = step-if (line-number (is-open (s .board)) l) s l
 
--- `T,grade,admitted,baked,given up`
-unfoldable pub tally-line : ℕ → Tally → Bytes
-tally-line g t = printed letter-T (g ∷ count-at t admitted-kind g ∷ count-at t baked-kind g ∷ count-at t given-up-kind g ∷ [])
+-- a run: the answers to all lines, and the session after the last
+pub record Run : Type 0 where
+  pub answers : List Answer
+  pub session : Session
 
--- n grades from g on
-unfoldable pub printed-tally : ℕ → ℕ → Tally → Bytes
-printed-tally zero g t = []
-printed-tally (suc n) g t = tally-line g t ++ printed-tally n (suc g) t
+-- the lines one after the other
+unfoldable pub run-from : Session → List Bytes → Run
+run-from s [] = record { answers = []; session = s }
+run-from s (l ∷ ls) =
+    let a = step s l in
+    let r = run-from (a .session) ls in
+    record { answers = a .answer ∷ r .answers; session = r .session }
 
--- 'At the end, if a board is open, [..] for each grade from 0 to 2^D − 1'
-unfoldable pub at-end : Option Board → Tally → Bytes
-at-end none t = []
-at-end (some b) t = printed-tally (2 ^ b .depth) 0 t
-
--- the lines from line i on
-unfoldable pub output-from : Session → ℕ → List Bytes → Bytes
-output-from s i [] = at-end (s .board) (s .tally)
-output-from s i (l ∷ ls) =
-    let a = answer s i l in
-    a .output ++ output-from (a .session) (suc i) ls
-
-unfoldable pub new-session : Session
-new-session = record { board = none; tally = zero-tally }
-
--- The program: standard input to standard output.
-unfoldable pub output : Bytes → Bytes
-output input = output-from new-session 1 (lines input)
+-- the run of an input
+unfoldable pub run : Bytes → Run
+run input = run-from new-session (lines input)

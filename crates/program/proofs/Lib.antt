@@ -1,3 +1,3 @@
-pub mod Answering
+pub mod Stepping
 pub mod Feeding
 pub mod Running

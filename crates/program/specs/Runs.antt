@@ -5,14 +5,15 @@ use mathlib.Core.Bool.{true, false}
 use Prim.Native.Nat.{ℕ, _+_, _*_, _^_, _≤_, _<_}
 use lib.ListN.{length}
 use Rattle.lines.specs.Bytes.{Bytes}
-use Rattle.lines.specs.Session.{output}
+use Rattle.lines.specs.Output.{output}
 use Rattle.lines.specs.Machine.{most-held, new-machine, after-bytes, printed-along}
+use Rattle.answers.specs.Printed.{answer-room}
 use Rattle.program.specs.declared.feed.State.{State}
 use Rattle.program.specs.declared.run.Ended.{Ended}
 use Rattle.program.specs.declared.run.Ended.the-variants.{Whole, ReadFailed, WriteFailed, TooLong}
 use Rattle.program.specs.declared.run.Outcome.{Outcome}
 use Rattle.program.specs.declared.run.Taken.{Taken}
-use Rattle.program.specs.Inner.Days.{GoodDay, line-room}
+use Rattle.program.specs.Inner.Days.{GoodDay}
 use Rattle.program.specs.Inner.Machines.{machine-of}
 
 -- `Outcome::MOST_READ`
@@ -28,7 +29,7 @@ pub record ChunkTaken (state : State) (chunk : Bytes) (r : Taken) : Type 0 where
   pub good : GoodDay (r .state .day)
   pub held : r .state .held .len ≤ most-held
   pub number : r .state .number ≤ state .number + length chunk
-  pub few : r .written ≤ line-room * length chunk
+  pub few : r .written ≤ answer-room * length chunk
   pub machine : r .whole ≡ true → machine-of (r .state) ≡ after-bytes (machine-of state) chunk
   pub all : r .whole ≡ true → r .written ≡ length (printed-along (machine-of state) chunk)
   pub part : r .whole ≡ false → r .written < length (printed-along (machine-of state) chunk)

@@ -1,18 +1,15 @@
-// What a line does to the day, and what it prints.
+// What a line does to the day, and how it is answered.
 ghost use mathlib.Core.Path.{_≡_};
 ghost use mathlib.Core.Bool.{true};
-ghost use mathlib.Core.List.{map};
-ghost use Prim.Native.Nat.{_+_, _*_, _≤_};
+ghost use Prim.Native.Nat.{_+_, _≤_};
 ghost use lib.ListN.{length};
-ghost use Rattle.board.specs.Tally.{counted};
-ghost use Rattle.board.specs.Events.{given-up-kind, event, baked-events, fed};
-ghost use Rattle.lines.specs.Printing.{printed};
-ghost use Rattle.lines.specs.Session.{refused, answer-open, answer-admit, answer-close};
-ghost use Rattle.printing.specs.Lines.{line-numbers, room};
-ghost use Rattle.program.specs.Inner.Days.{session-of, GoodDay, line-room, Given, PutWithin, Answered, printed-each};
+ghost use Rattle.board.specs.Limits.{places-held};
+ghost use Rattle.lines.specs.Session.{step-refused, step-open, step-admit, step-close, step};
+ghost use Rattle.answers.specs.Printed.{answer-room};
+ghost use Rattle.program.specs.Inner.Days.{session-of, GoodDay, Did, DidAlone, Answered};
+use answers::Answer;
 use board::Board;
 use board::Laxity;
-use board::Slot;
 use board::Tally;
 use calls::admit;
 use calls::close;
@@ -25,50 +22,41 @@ pub struct Day {
     pub tally: Tally,
 }
 
+// The day after a line, what the line is answered, and how many jobs given up stand in the lists.
+pub struct Stepped {
+    pub day: Day,
+    pub answer: Answer,
+    pub listed: usize,
+}
+
 // The day after a line, and where the line's output ends in the buffer.
 pub struct DayAfter {
     pub day: Day,
     pub at: usize,
 }
 
-// Prints a line at `at`; where it ends.
-pub(crate) fn print_at(out: &mut [u8], at: usize, letter: u8, numbers: &[u64]) -> usize
-    requires { ⌜ (length (now numbers) ≤ line-numbers) × (at + room ≤ length (now out)) ⌝ }
-    ensures { λ r. ⌜ PutWithin room (printed letter (now (numbers .entry))) (now (out .entry)) at r (now (out .exit)) ⌝ }
-{
-    let l = printing::print_line(letter, numbers);
-    printing::put_line(out, at, l)
-}
-
-// The tally with one event more: kind 0 admitted, 1 baked, 2 given up.
-fn count(t: Tally, kind: u32, grade: u32) -> Tally
-    ensures { λ r. ⌜ r ≡ counted t kind grade .tally ⌝ }
-{
-    let c = tally::count_event(t, kind, grade);
-    c.tally
-}
-
 // A line that is refused: the day is as it was.
-fn refuse(day: Day, line: u64, number: u8, out: &mut [u8], at: usize) -> DayAfter
+fn refuse(day: Day, number: u8) -> Stepped
     requires { ⌜ GoodDay day ⌝ }
-    requires { ⌜ at + line-room ≤ length (now out) ⌝ }
-    ensures { λ r. ⌜ Given (refused (session-of day) line number) (now (out .entry)) at r (now (out .exit)) ⌝ }
+    ensures { λ r. ⌜ DidAlone (step-refused (session-of day) number) r ⌝ }
 {
-    let end = print_at(out, at, b'R', &[line, number as u64]);
-    DayAfter { day, at: end }
+    let answer = Answer::Refused(number);
+    Stepped {
+        day,
+        answer,
+        listed: 0,
+    }
 }
 
 // A line that opens.
-fn open_line(day: Day, line: u64, depth: u32, out: &mut [u8], at: usize) -> DayAfter
+fn open_line(day: Day, depth: u32) -> Stepped
     requires { ⌜ GoodDay day ⌝ }
-    requires { ⌜ at + line-room ≤ length (now out) ⌝ }
-    ensures { λ r. ⌜ Given (answer-open (session-of day) line depth) (now (out .entry)) at r (now (out .exit)) ⌝ }
+    ensures { λ r. ⌜ DidAlone (step-open (session-of day) depth) r ⌝ }
 {
     let o = Board::open(depth);
     if o.refusal != 0 {
-        return refuse(day, line, o.refusal, out, at);
+        return refuse(day, o.refusal);
     }
-    let end = print_at(out, at, b'D', &[depth as u64]);
     let board = o.board;
     let tally = day.tally;
     let next = Day {
@@ -76,145 +64,107 @@ fn open_line(day: Day, line: u64, depth: u32, out: &mut [u8], at: usize) -> DayA
         board,
         tally,
     };
-    DayAfter { day: next, at: end }
+    let answer = Answer::Opened(depth);
+    Stepped {
+        day: next,
+        answer,
+        listed: 0,
+    }
 }
 
 // A line that admits.
-fn admit_line(
-    day: Day,
-    line: u64,
-    ticket: u32,
-    laxity: Laxity,
-    grade: u32,
-    out: &mut [u8],
-    at: usize,
-) -> DayAfter
+fn admit_line(day: Day, ticket: u32, laxity: Laxity, grade: u32) -> Stepped
     requires { ⌜ GoodDay day ⌝ }
     requires { ⌜ day .opened ≡ true ⌝ }
-    requires { ⌜ at + line-room ≤ length (now out) ⌝ }
-    ensures { λ r. ⌜ Given (answer-admit (session-of day) (day .board) line ticket (laxity .0) grade) (now (out .entry)) at r (now (out .exit)) ⌝ }
+    ensures { λ r. ⌜ DidAlone (step-admit (session-of day) (day .board) ticket (laxity .0) grade) r ⌝ }
 {
     let b = day.board;
     let a = admit::admit_in_limits(b, ticket, laxity, grade);
     if a.refusal != 0 {
-        return refuse(day, line, a.refusal, out, at);
+        return refuse(day, a.refusal);
     }
-    let end = print_at(out, at, b'A', &[ticket as u64, a.last.0 as u64]);
     let board = a.board;
     let old = day.tally;
-    let tally = count(old, 0, grade);
+    let tally = tally::count_admitted(old, grade);
     let next = Day {
         opened: true,
         board,
         tally,
     };
-    DayAfter { day: next, at: end }
-}
-
-// Prints a line for each job given up; where the last one ends.
-fn print_given_up(slot: Slot, tickets: &[u32], grades: &[u8], out: &mut [u8], at: usize) -> usize
-    requires { ⌜ length (now grades) ≡ length (now tickets) ⌝ }
-    requires { ⌜ at + length (now tickets) * room ≤ length (now out) ⌝ }
-    ensures { λ r.
-        let lines = printed-each (slot .0) (now (tickets .entry)) (now (grades .entry)) in
-        ⌜ PutWithin (length (now (tickets .entry)) * room) lines (now (out .entry)) at r (now (out .exit)) ⌝ }
-{
-    let mut end = at;
-    let mut i: usize = 0;
-    while i < tickets.len() {
-        end = print_at(
-            out,
-            end,
-            b'G',
-            &[slot.0 as u64, tickets[i] as u64, grades[i] as u64],
-        );
-        i += 1;
+    let last = a.last;
+    let answer = Answer::Admitted(ticket, last);
+    Stepped {
+        day: next,
+        answer,
+        listed: 0,
     }
-    end
 }
 
-// Counts the job baked, if there is one.
-fn count_baked(t: Tally, ticket: u32, grade: u8) -> Tally
-    ensures { λ r. ⌜ r ≡ fed t (baked-events ticket grade) ⌝ }
-{
-    if ticket == 0 {
-        return t;
-    }
-    count(t, 1, grade as u32)
-}
-
-// Counts the jobs given up.
-fn count_given_up(t: Tally, grades: &[u8]) -> Tally
-    ensures { λ r. ⌜ r ≡ fed t (map (event given-up-kind) (now (grades .entry))) ⌝ }
-{
-    let mut tally = t;
-    let mut i: usize = 0;
-    while i < grades.len() {
-        tally = count(tally, 2, grades[i] as u32);
-        i += 1;
-    }
-    tally
-}
-
-// A line that closes.
-fn close_line(day: Day, line: u64, out: &mut [u8], at: usize) -> DayAfter
+// A line that closes. The jobs given up are the first in the lists.
+fn close_line(day: Day, tickets: &mut [u32], grades: &mut [u8], slots: &mut [u32]) -> Stepped
     requires { ⌜ GoodDay day ⌝ }
     requires { ⌜ day .opened ≡ true ⌝ }
-    requires { ⌜ at + line-room ≤ length (now out) ⌝ }
-    ensures { λ r. ⌜ Given (answer-close (session-of day) (day .board) line) (now (out .entry)) at r (now (out .exit)) ⌝ }
+    requires { ⌜ (length (now tickets) ≡ places-held) × (length (now grades) ≡ places-held) × (length (now slots) ≡ places-held) ⌝ }
+    ensures { λ r. ⌜ Did (step-close (session-of day) (day .board)) r (now (tickets .exit)) (now (grades .exit)) ⌝ }
 {
-    let mut tickets = [0u32; Board::PLACES];
-    let mut grades = [0u8; Board::PLACES];
-    let mut slots = [0u32; Board::PLACES];
     let b = day.board;
-    let c = close::close_in_limits(b, &mut tickets, &mut grades, &mut slots);
+    let c = close::close_in_limits(b, tickets, grades, slots);
     if c.refusal != 0 {
-        return refuse(day, line, c.refusal, out, at);
+        return refuse(day, c.refusal);
     }
     let n = c.expired as usize;
-    let mid = print_at(
-        out,
-        at,
-        b'B',
-        &[
-            b.slot.0 as u64,
-            c.ticket as u64,
-            c.grade as u64,
-            c.expired as u64,
-        ],
-    );
-    let end = print_given_up(b.slot, &tickets[..n], &grades[..n], out, mid);
     let old = day.tally;
-    let baked = count_baked(old, c.ticket, c.grade);
-    let tally = count_given_up(baked, &grades[..n]);
+    let baked = tally::count_baked(old, c.ticket, c.grade);
+    let tally = tally::count_given_up(baked, &grades[..n]);
     let board = c.board;
     let next = Day {
         opened: true,
         board,
         tally,
     };
-    DayAfter { day: next, at: end }
+    let slot = b.slot;
+    let answer = Answer::Closed(slot, c.ticket, c.grade);
+    Stepped {
+        day: next,
+        answer,
+        listed: n,
+    }
+}
+
+// What a line does, the line end not among its bytes.
+fn step_line(
+    day: Day,
+    line: &[u8],
+    tickets: &mut [u32],
+    grades: &mut [u8],
+    slots: &mut [u32],
+) -> Stepped
+    requires { ⌜ GoodDay day ⌝ }
+    requires { ⌜ (length (now tickets) ≡ places-held) × (length (now grades) ≡ places-held) × (length (now slots) ≡ places-held) ⌝ }
+    ensures { λ r. ⌜ Did (step (session-of day) (now (line .entry))) r (now (tickets .exit)) (now (grades .exit)) ⌝ }
+{
+    let asked = reading::read_line(line, day.opened);
+    match asked {
+        Asked::Open(depth) => open_line(day, depth),
+        Asked::Admit(ticket, laxity, grade) => admit_line(day, ticket, laxity, grade),
+        Asked::Close => close_line(day, tickets, grades, slots),
+        Asked::Refused(n) => refuse(day, n),
+    }
 }
 
 // Answers a line, the line end not among its bytes.
 pub(crate) fn answer_line(day: Day, number: u64, line: &[u8], out: &mut [u8], at: usize) -> DayAfter
     requires { ⌜ GoodDay day ⌝ }
-    requires { ⌜ at + line-room ≤ length (now out) ⌝ }
+    requires { ⌜ at + answer-room ≤ length (now out) ⌝ }
     ensures { λ r. ⌜ Answered day number (now (line .entry)) (now (out .entry)) at r (now (out .exit)) ⌝ }
 {
-    let asked = reading::read_line(line, day.opened);
-    match asked {
-        Asked::Open(depth) => open_line(day, number, depth, out, at),
-        Asked::Admit(ticket, laxity, grade) => admit_line(
-            day,
-            number,
-            ticket,
-            laxity,
-            grade,
-            out,
-            at,
-        ),
-        Asked::Close => close_line(day, number, out, at),
-        Asked::Refused(n) => refuse(day, number, n, out, at),
-    }
+    let mut tickets = [0u32; Board::PLACES];
+    let mut grades = [0u8; Board::PLACES];
+    let mut slots = [0u32; Board::PLACES];
+    let s = step_line(day, line, &mut tickets, &mut grades, &mut slots);
+    let n = s.listed;
+    let answer = s.answer;
+    let end = answers::print_answer(number, answer, &tickets[..n], &grades[..n], out, at);
+    let next = s.day;
+    DayAfter { day: next, at: end }
 }

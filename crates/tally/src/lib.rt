@@ -1,8 +1,10 @@
 // The tally: a count for each kind of event and each grade, kept by the caller.
 ghost use mathlib.Core.Path.{_≡_};
 ghost use mathlib.Core.Bool.{_||_};
+ghost use mathlib.Core.List.{[], _∷_, map};
 ghost use lib.Dec.{leb};
 ghost use Rattle.board.specs.Tally.{tally-kinds, tally-grades, zero-tally, counted};
+ghost use Rattle.board.specs.Events.{admitted-kind, given-up-kind, event, baked-events, fed};
 use board::Counted;
 use board::Tally;
 
@@ -52,4 +54,42 @@ pub fn count_event(mut t: Tally, kind: u32, grade: u32) -> Counted
         refusal: 0,
         tally: t,
     }
+}
+
+// The tally with one event more, or as it was where it refuses the event.
+fn fed_event(t: Tally, kind: u32, grade: u32) -> Tally
+    ensures { λ r. ⌜ r ≡ fed t (event kind grade ∷ []) ⌝ }
+{
+    let c = count_event(t, kind, grade);
+    c.tally
+}
+
+// Counts a job admitted.
+pub fn count_admitted(t: Tally, grade: u32) -> Tally
+    ensures { λ r. ⌜ r ≡ fed t (event admitted-kind grade ∷ []) ⌝ }
+{
+    fed_event(t, Tally::ADMITTED, grade)
+}
+
+// Counts the job baked, if there is one: ticket 0 is none.
+pub fn count_baked(t: Tally, ticket: u32, grade: u8) -> Tally
+    ensures { λ r. ⌜ r ≡ fed t (baked-events ticket grade) ⌝ }
+{
+    if ticket == 0 {
+        return t;
+    }
+    fed_event(t, Tally::BAKED, grade as u32)
+}
+
+// Counts the jobs given up, by their grades.
+pub fn count_given_up(t: Tally, grades: &[u8]) -> Tally
+    ensures { λ r. ⌜ r ≡ fed t (map (event given-up-kind) (now (grades .entry))) ⌝ }
+{
+    let mut tally = t;
+    let mut i: usize = 0;
+    while i < grades.len() {
+        tally = fed_event(tally, Tally::GIVEN_UP, grades[i] as u32);
+        i += 1;
+    }
+    tally
 }

@@ -17,7 +17,7 @@ use Rattle.claims.proofs.Tallying.RunFacts.{Leads, leads-nowhere, leads-on}
 use Rattle.claims.proofs.Tallying.InBalance.{fed-run}
 
 -- events lead to the board from a sound one without jobs, and the tally is a zero tally fed them
-pub record Run (b : Board) (y : Tally) : Type 0 where
+pub record Reached (b : Board) (y : Tally) : Type 0 where
   pub start : Board
   pub is-sound : sound start ≡ true
   pub empty : start .count ≡ 0
@@ -27,11 +27,11 @@ pub record Run (b : Board) (y : Tally) : Type 0 where
 
 unfoldable pub InRun : Option Board → Tally → Type 0
 InRun none y = y ≡ zero-tally
-InRun (some b) y = Run b y
+InRun (some b) y = Reached b y
 
-pub run-opened : (d : ℕ) → d ≤ deepest → Run (opened d .board) zero-tally
+pub reached-opened : (d : ℕ) → d ≤ deepest → Reached (opened d .board) zero-tally
 unfolding fed
-run-opened d h =
+reached-opened d h =
     record {
       start = opened d .board;
       is-sound = opened-sound d h;
@@ -41,15 +41,15 @@ run-opened d h =
       tally = refl;
     }
 
-module _ {b c : Board} {y : Tally} {es : List Event} (r : Run b y) (l : Leads b es c) where
+module _ {b c : Board} {y : Tally} {es : List Event} (r : Reached b y) (l : Leads b es c) where
   -- the tally refuses no event that leads on
-  pub run-taken : all-taken y es ≡ true
-  run-taken =
+  pub reached-taken : all-taken y es ≡ true
+  reached-taken =
       subst (λ x. all-taken x es ≡ true) (sym (r .tally))
       (taken-append zero-tally (r .events) es (fed-run (r .is-sound) (r .empty) (leads-on (r .leads) l) .none-refused))
 
-  pub run-on : Run c (fed y es)
-  run-on =
+  pub reached-on : Reached c (fed y es)
+  reached-on =
       record {
         start = r .start;
         is-sound = r .is-sound;

@@ -20,9 +20,9 @@ use Rattle.board.specs.Events.{Event, event-numbers, all-taken}
 use Rattle.claims.proofs.Tallying.AdmitFacts.{admit-leads}
 use Rattle.claims.proofs.Tallying.CloseFacts.{close-leads}
 use Rattle.lines.specs.Reading.{admit-job, close-slot}
-use Rattle.lines.specs.Session.{Session, Answer, refused, answer-open, answer-admit, answer-close}
+use Rattle.lines.specs.Session.{Session, Step, step-refused, step-open, step-admit, step-close}
 use Rattle.lines.specs.NeverMet.{request-numbers}
-use Rattle.lines.proofs.NeverMet.Between.{Run, InRun, run-opened, run-taken, run-on}
+use Rattle.lines.proofs.NeverMet.Between.{Reached, InRun, reached-opened, reached-taken, reached-on}
 use Rattle.lines.proofs.NeverMet.MayMeet.{may-meet, opened-shallow, may-open, may-admit, may-close}
 
 -- the numbers given on the way to a session may be met, and what holds between two lines holds of it
@@ -41,8 +41,8 @@ call-met n y es m t =
     and-intro (may-meet n) (every may-meet (event-numbers y es)) m
     (mem-every may-meet (event-numbers y es) (λ x i. ap may-meet (eqb-true x 0 (every-mem (λ k. eqb k 0) t i))))
 
--- a call that is let through leaves its answer's session, a refused one the session before
-either : (n : ℕ) (a o : Answer) → (n ≡ 0 → InRun (a .session .board) (a .session .tally)) → InRun (o .session .board) (o .session .tally)
+-- a call that is let through leaves its own session, a refused one the session before
+either : (n : ℕ) (a o : Step) → (n ≡ 0 → InRun (a .session .board) (a .session .tally)) → InRun (o .session .board) (o .session .tally)
     → InRun (cond (eqb n 0) a o .session .board) (cond (eqb n 0) a o .session .tally)
 either n a o yes-goes no-goes = go (eqb n 0) (eqb-true n 0)
   where
@@ -50,30 +50,30 @@ either n a o yes-goes no-goes = go (eqb n 0) (eqb-true n 0)
     go true f = yes-goes (f refl)
     go false f = no-goes
 
-module _ (s : Session) (i : ℕ) (h : InRun (s .board) (s .tally)) where
-  pub goes-open : s .tally ≡ zero-tally → (d : ℕ) → Goes (opened d .refusal ∷ []) (answer-open s i d .session)
-  unfolding answer-open refused InRun every
+module _ (s : Session) (h : InRun (s .board) (s .tally)) where
+  pub goes-open : s .tally ≡ zero-tally → (d : ℕ) → Goes (opened d .refusal ∷ []) (step-open s d .session)
+  unfolding step-open step-refused InRun every
   goes-open z d =
       record {
         met = and-intro (may-meet (opened d .refusal)) true (may-open d) refl;
-        after = either (opened d .refusal) _ _ (λ e. subst (Run (opened d .board)) (sym z) (run-opened d (opened-shallow d e))) h;
+        after = either (opened d .refusal) _ _ (λ e. subst (Reached (opened d .board)) (sym z) (reached-opened d (opened-shallow d e))) h;
       }
 
-  module _ (b : Board) (r : Run b (s .tally)) where
-    pub goes-admit : (t w g : ℕ) → Goes (request-numbers (some b) (s .tally) (admit-job t w g)) (answer-admit s b i t w g .session)
-    unfolding request-numbers answer-admit refused InRun
+  module _ (b : Board) (r : Reached b (s .tally)) where
+    pub goes-admit : (t w g : ℕ) → Goes (request-numbers (some b) (s .tally) (admit-job t w g)) (step-admit s b t w g .session)
+    unfolding request-numbers step-admit step-refused InRun
     goes-admit t w g =
         let l = admit-leads b t w g (r .leads .is-sound) in
         record {
-          met = call-met _ (s .tally) _ (may-admit b t w g (r .leads .is-sound)) (run-taken r l);
-          after = either (admitted b t w g .refusal) _ _ (λ e. run-on r l) h;
+          met = call-met _ (s .tally) _ (may-admit b t w g (r .leads .is-sound)) (reached-taken r l);
+          after = either (admitted b t w g .refusal) _ _ (λ e. reached-on r l) h;
         }
 
-    pub goes-close : Goes (request-numbers (some b) (s .tally) close-slot) (answer-close s b i .session)
-    unfolding request-numbers answer-close refused InRun
+    pub goes-close : Goes (request-numbers (some b) (s .tally) close-slot) (step-close s b .session)
+    unfolding request-numbers step-close step-refused InRun
     goes-close =
         let l = close-leads b places-held (r .leads .is-sound) in
         record {
-          met = call-met _ (s .tally) _ (may-close b (r .leads .is-sound)) (run-taken r l);
-          after = either (closed b places-held .refusal) _ _ (λ e. run-on r l) h;
+          met = call-met _ (s .tally) _ (may-close b (r .leads .is-sound)) (reached-taken r l);
+          after = either (closed b places-held .refusal) _ _ (λ e. reached-on r l) h;
         }

@@ -1,33 +1,39 @@
 -- A line of a chunk taken in: it goes on to the chunk's end and its bytes are held, or it ends and is answered.
+use mathlib.Core.Bool.{true, false, cond}
 use mathlib.Core.List.{[], _∷_, _++_}
-use mathlib.Core.Path.{_≡_, sym, ap, ap₂, _∙_}
-use Prim.Native.Nat.{ℕ, _+_, _≤_, _<_}
+use mathlib.Core.Path.{_≡_, sym, subst, ap, ap₂, _∙_}
+use Prim.Native.Nat.{ℕ, suc, _+_, _≤_, _<_, min}
 use native.Mathlib.Numerals.{add-one}
 use native.Mathlib.Omega.{arith}
+use borrow.Author.Tests.{ltb-true, ltb-false}
 use lib.ListN.{length}
 use Rattle.lines.specs.Bytes.{Bytes, line-end}
-use Rattle.lines.specs.Session.{Session, answer}
+use Rattle.lines.specs.Session.{Session, step}
+use Rattle.lines.specs.Output.{printed-answer}
 use Rattle.lines.specs.Machine.{most-held, after-bytes, printed-along}
 use Rattle.printing.specs.Lines.{put}
 use Rattle.printing.proofs.Puts.{put-none}
+use Rattle.cutting.specs.declared.Held.{Held}
+use Rattle.cutting.specs.declared.Cut.{Cut}
+use Rattle.cutting.specs.Cut.{held-bytes, part, LineEnds, hold-all, CutFrom}
+use Rattle.cutting.proofs.Parts.{part-last}
+use Rattle.answers.specs.Printed.{answer-room}
 use Rattle.program.specs.declared.session.DayAfter.{DayAfter}
-use Rattle.program.specs.declared.feed.Held.{Held}
 use Rattle.program.specs.declared.feed.State.{State}
-use Rattle.program.specs.Inner.Days.{session-of, GoodDay, line-room, Answered}
-use Rattle.program.specs.Inner.Machines.{held-bytes, machine-of, used-bytes, LineEnds, hold-all, TakenIn}
+use Rattle.program.specs.Inner.Days.{session-of, GoodDay, Answered}
+use Rattle.program.specs.Inner.Machines.{machine-of, TakenIn}
 use Rattle.program.proofs.Feeding.Along.{part-after, part-printed, line-after, line-printed}
-use Rattle.program.proofs.Feeding.Parts.{part-last}
 
 module _
     (k : State) (s : Bytes) (from to : ℕ) (out : Bytes) (at : ℕ) (l : LineEnds s from to)
-    (h : Held) (e : held-bytes h ≡ hold-all (held-bytes (k .held)) (used-bytes s from to))
+    (h : Held) (e : held-bytes h ≡ hold-all (held-bytes (k .held)) (part s from to))
   where
-    pub taken-part : GoodDay (k .day) → h .len ≤ most-held → at ≤ length out
+    taken-part : GoodDay (k .day) → h .len ≤ most-held → at ≤ length out
         → TakenIn k s from out at (record { state = record { day = k .day; number = k .number; held = h }; used = to; at = at }) out
-    unfolding machine-of line-room
+    unfolding machine-of answer-room
     taken-part g n f =
-        let p : printed-along (machine-of k) (used-bytes s from to) ≡ [] =
-        part-printed (session-of (k .day)) (k .number) (held-bytes (k .held)) (used-bytes s from to) (l .one-line)
+        let p : printed-along (machine-of k) (part s from to) ≡ [] =
+        part-printed (session-of (k .day)) (k .number) (held-bytes (k .held)) (part s from to) (l .one-line)
         in
         record {
           good = g;
@@ -36,7 +42,7 @@ module _
           inside = l .inside;
           number = omega (arith, l .forward);
           machine = ap (λ (x : Bytes). record { session = session-of (k .day); number = k .number; held = x }) e
-              ∙ sym (part-after (session-of (k .day)) (k .number) (held-bytes (k .held)) (used-bytes s from to) (l .one-line));
+              ∙ sym (part-after (session-of (k .day)) (k .number) (held-bytes (k .held)) (part s from to) (l .one-line));
           end = rw p (omega arith);
           few = omega (arith, l .forward);
           fits = f;
@@ -45,19 +51,19 @@ module _
 
     -- its end is in the chunk, and it is answered
     module _ (m : to < length s) (r : DayAfter) (out' : Bytes) (a : Answered (k .day) (k .number) (held-bytes h) out at r out') where
-      used-line : used-bytes s from (to + 1) ≡ used-bytes s from to ++ (line-end ∷ [])
-      used-line = rw add-one (part-last s from to (l .forward) m) ∙ ap (λ (b : ℕ). used-bytes s from to ++ (b ∷ [])) (l .ended m)
+      used-line : part s from (to + 1) ≡ part s from to ++ (line-end ∷ [])
+      used-line = rw add-one (part-last s from to (l .forward) m) ∙ ap (λ (b : ℕ). part s from to ++ (b ∷ [])) (l .ended m)
 
-      printed-line : printed-along (machine-of k) (used-bytes s from (to + 1)) ≡ answer (session-of (k .day)) (k .number) (held-bytes h) .output
+      printed-line : printed-along (machine-of k) (part s from (to + 1)) ≡ printed-answer (k .number) (step (session-of (k .day)) (held-bytes h) .answer)
       unfolding machine-of
       printed-line =
           ap (printed-along (machine-of k)) used-line
-          ∙ line-printed (session-of (k .day)) (k .number) (held-bytes (k .held)) (used-bytes s from to) (l .one-line)
-          ∙ ap (λ (x : Bytes). answer (session-of (k .day)) (k .number) x .output) (sym e)
+          ∙ line-printed (session-of (k .day)) (k .number) (held-bytes (k .held)) (part s from to) (l .one-line)
+          ∙ ap (λ (x : Bytes). printed-answer (k .number) (step (session-of (k .day)) x .answer)) (sym e)
 
-      pub taken-line : (bytes : Bytes) → at + line-room ≤ length out
+      taken-line : (bytes : Bytes) → at + answer-room ≤ length out
           → TakenIn k s from out at (record { state = record { day = r .day; number = k .number + 1; held = record { bytes = bytes; len = 0 } }; used = to + 1; at = r .at }) out'
-      unfolding machine-of held-bytes line-room
+      unfolding machine-of held-bytes answer-room
       taken-line bytes f =
           record {
             good = a .good;
@@ -67,12 +73,52 @@ module _
             number = omega (arith, l .forward);
             machine = ap₂
                 (λ (x : Session) (n : ℕ). record { session = x; number = n; held = [] })
-                (a .session ∙ ap (λ (x : Bytes). answer (session-of (k .day)) (k .number) x .session) e)
+                (a .session ∙ ap (λ (x : Bytes). step (session-of (k .day)) x .session) e)
                 (add-one (k .number))
-                ∙ sym (line-after (session-of (k .day)) (k .number) (held-bytes (k .held)) (used-bytes s from to) (l .one-line))
+                ∙ sym (line-after (session-of (k .day)) (k .number) (held-bytes (k .held)) (part s from to) (l .one-line))
                 ∙ ap (after-bytes (machine-of k)) (sym used-line);
             end = a .end ∙ ap (λ (x : Bytes). at + length x) (sym printed-line);
             few = omega (arith, l .forward, a .within);
             fits = omega (arith, a .within);
             bytes = a .bytes ∙ ap (put out at) (sym printed-line);
           }
+
+-- a line cut from the chunk's bytes from `from` on
+module _ (k : State) (s : Bytes) (from : ℕ) (out : Bytes) (at : ℕ) {r : Cut} (inside : from ≤ length s) (c : CutFrom (k .held) s (min from (length s)) r) where
+  cut : CutFrom (k .held) s from r
+  cut = let e : min from (length s) ≡ from = omega arith in subst (λ (n : ℕ). CutFrom (k .held) s n r) e c
+
+  -- its end is not in the chunk
+  pub cut-part : r .ended ≡ false → GoodDay (k .day) → at ≤ length out
+      → TakenIn k s from out at (record { state = record { day = k .day; number = k .number; held = r .held }; used = r .used; at = at }) out
+  cut-part h g f =
+      let e : r .used ≡ cut .to = cut .used ∙ ap (λ b. cond b (suc (cut .to)) (cut .to)) h in
+      subst (λ (n : ℕ). TakenIn k s from out at (record { state = record { day = k .day; number = k .number; held = r .held }; used = n; at = at }) out) (sym e)
+      (taken-part k s from (cut .to) out at (cut .ends) (r .held) (cut .line) g (cut .few) f)
+
+  -- and then the chunk is used to its end
+  pub cut-all : r .ended ≡ false → r .used ≡ length s
+  cut-all h =
+      let e : r .used ≡ cut .to = cut .used ∙ ap (λ b. cond b (suc (cut .to)) (cut .to)) h in
+      omega (arith, e, cut .ends .inside, ltb-false (cut .to) (length s) (sym (cut .ended) ∙ h))
+
+  module _ (h : r .ended ≡ true) where
+    ended-in : cut .to < length s
+    ended-in = ltb-true (cut .to) (length s) (sym (cut .ended) ∙ h)
+
+    used-end : r .used ≡ cut .to + 1
+    used-end = cut .used ∙ ap (λ b. cond b (suc (cut .to)) (cut .to)) h ∙ sym (add-one (cut .to))
+
+    pub further : from < r .used
+    further = omega (arith, used-end, cut .ends .forward)
+
+    pub used-inside : r .used ≤ length s
+    used-inside = omega (arith, used-end, ended-in)
+
+    -- it is, and the line is answered
+    pub cut-line : (a : DayAfter) (out' : Bytes) → Answered (k .day) (k .number) (held-bytes (r .held)) out at a out' → (bytes : Bytes) → at + answer-room ≤ length out
+        → TakenIn k s from out at (record { state = record { day = a .day; number = k .number + 1; held = record { bytes = bytes; len = 0 } }; used = r .used; at = a .at }) out'
+    cut-line a out' g bytes f =
+        subst (λ (n : ℕ). TakenIn k s from out at (record { state = record { day = a .day; number = k .number + 1; held = record { bytes = bytes; len = 0 } }; used = n; at = a .at }) out')
+        (sym used-end)
+        (taken-line k s from (cut .to) out at (cut .ends) (r .held) (cut .line) ended-in a out' g bytes f)

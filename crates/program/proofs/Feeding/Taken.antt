@@ -7,21 +7,24 @@ use native.Mathlib.Omega.{arith}
 use lib.ListN.{length}
 use Rattle.lists.proofs.Tests.{cmp}
 use Rattle.lines.specs.Bytes.{Bytes}
-use Rattle.lines.specs.Machine.{most-held, Machine, after-bytes, printed-along}
+use Rattle.lines.specs.Output.{printed-answers}
+use Rattle.lines.specs.Machine.{most-held, Machine, after-bytes, answers-along, printed-along}
+use Rattle.lines.proofs.Answers.{after-append, printed-append}
 use Rattle.printing.specs.Lines.{put}
 use Rattle.printing.proofs.Puts.{put-none}
+use Rattle.cutting.specs.Cut.{part}
+use Rattle.cutting.proofs.Parts.{part-none, part-join}
+use Rattle.answers.specs.Printed.{answer-room}
+use Rattle.answers.proofs.Pieces.{Left, all-left, fewer-left}
+use Rattle.answers.proofs.Buffers.{put-length}
 use Rattle.program.specs.declared.feed.State.{State}
 use Rattle.program.specs.declared.feed.Fed.{Fed}
-use Rattle.program.specs.Inner.Days.{GoodDay, line-room}
-use Rattle.program.specs.Inner.Machines.{machine-of, used-bytes, TakenIn, GoesOn}
-use Rattle.program.proofs.Answering.Pieces.{Left, all-left, fewer-left}
-use Rattle.program.proofs.Feeding.Along.{after-append, printed-append}
-use Rattle.program.proofs.Feeding.Buffers.{put-length}
-use Rattle.program.proofs.Feeding.Parts.{part-none, part-join}
+use Rattle.program.specs.Inner.Days.{GoodDay}
+use Rattle.program.specs.Inner.Machines.{machine-of, TakenIn, GoesOn}
 
 pub taken-none : (k : State) (s : Bytes) (from : ℕ) (out : Bytes) (at : ℕ) → GoodDay (k .day) → k .held .len ≤ most-held → from ≤ length s → at ≤ length out
     → TakenIn k s from out at (record { state = k; used = from; at = at }) out
-unfolding after-bytes printed-along line-room
+unfolding after-bytes answers-along printed-along printed-answers answer-room
 taken-none k s from out at g h l f =
     let e = part-none s from in
     record {
@@ -39,22 +42,22 @@ taken-none k s from out at g h l f =
 
 module _ {k : State} {s : Bytes} {from : ℕ} {out : Bytes} {at : ℕ} {f : Fed} {mid : Bytes} (a : TakenIn k s from out at f mid) where
   abbrev first : Bytes
-  first = printed-along (machine-of k) (used-bytes s from (f .used))
+  first = printed-along (machine-of k) (part s from (f .used))
 
   pub kept-length : length mid ≡ length out
   kept-length = ap length (a .bytes) ∙ put-length out at first (omega (arith, a .end, a .fits))
 
   module _ {g : Fed} {last : Bytes} (b : TakenIn (f .state) s (f .used) mid (f .at) g last) where
     abbrev second : Bytes
-    second = printed-along (machine-of (f .state)) (used-bytes s (f .used) (g .used))
+    second = printed-along (machine-of (f .state)) (part s (f .used) (g .used))
 
-    parts : used-bytes s from (f .used) ++ used-bytes s (f .used) (g .used) ≡ used-bytes s from (g .used)
+    parts : part s from (f .used) ++ part s (f .used) (g .used) ≡ part s from (g .used)
     parts = part-join s from (f .used) (g .used) (a .forward) (b .forward) (b .inside)
 
-    joined : printed-along (machine-of k) (used-bytes s from (g .used)) ≡ first ++ second
+    joined : printed-along (machine-of k) (part s from (g .used)) ≡ first ++ second
     joined =
-        let u = used-bytes s from (f .used) in
-        let v = used-bytes s (f .used) (g .used) in
+        let u = part s from (f .used) in
+        let v = part s (f .used) (g .used) in
         ap (printed-along (machine-of k)) (sym parts)
         ∙ printed-append (machine-of k) u v
         ∙ ap (λ (m : Machine). first ++ printed-along m v) (sym (a .machine))
@@ -63,10 +66,10 @@ module _ {k : State} {s : Bytes} {from : ℕ} {out : Bytes} {at : ℕ} {f : Fed}
     left = fewer-left first second out at mid (f .at) (all-left (first ++ second) out at) (omega (arith, a .end, a .fits)) (a .end) (a .bytes)
 
     pub taken-join : TakenIn k s from out at g last
-    unfolding line-room
+    unfolding answer-room
     taken-join =
-        let u = used-bytes s from (f .used) in
-        let v = used-bytes s (f .used) (g .used) in
+        let u = part s from (f .used) in
+        let v = part s (f .used) (g .used) in
         record {
           good = b .good;
           held = b .held;
@@ -85,15 +88,15 @@ module _ {k : State} {s : Bytes} {from : ℕ} {out : Bytes} {at : ℕ} {f : Fed}
 
   -- where no byte is used nothing is printed
   stays : f .used ≡ from → f .at ≡ at
-  unfolding printed-along
+  unfolding answers-along printed-along printed-answers
   stays e =
-      let p : used-bytes s from (f .used) ≡ [] = ap (used-bytes s from) e ∙ part-none s from in
+      let p : part s from (f .used) ≡ [] = ap (part s from) e ∙ part-none s from in
       omega (arith, a .end, ap (λ (x : Bytes). length (printed-along (machine-of k) x)) p)
 
-  pub stops-full : length out < f .at + line-room → GoesOn s from out at f
+  pub stops-full : length out < f .at + answer-room → GoesOn s from out at f
   stops-full h = record { further = λ r l. go r (cmp (f .used) from); to-the-end = λ r. absurd (omega arith) }
     where
-      go : at + line-room ≤ length out → (f .used ≤ from) ⊎ (from < f .used) → from < f .used
+      go : at + answer-room ≤ length out → (f .used ≤ from) ⊎ (from < f .used) → from < f .used
       go r (inl n) = absurd (omega (arith, stays (omega (arith, a .forward))))
       go r (inr n) = n
 

@@ -7,14 +7,17 @@ use native.Mathlib.Omega.{arith}
 use lib.ListN.{length, length-append}
 use Rattle.lists.proofs.Tests.{never}
 use Rattle.lines.specs.Bytes.{Bytes}
-use Rattle.lines.specs.Machine.{most-held, Machine, after-bytes, printed-along}
+use Rattle.lines.specs.Output.{printed-answers}
+use Rattle.lines.specs.Machine.{most-held, Machine, after-bytes, answers-along, printed-along}
+use Rattle.lines.proofs.Answers.{after-append, printed-append}
+use Rattle.cutting.specs.Cut.{part}
+use Rattle.cutting.proofs.Parts.{part-none, part-join, part-whole}
+use Rattle.answers.specs.Printed.{answer-room}
 use Rattle.program.specs.declared.feed.State.{State}
 use Rattle.program.specs.declared.feed.Fed.{Fed}
-use Rattle.program.specs.Inner.Days.{GoodDay, line-room}
-use Rattle.program.specs.Inner.Machines.{machine-of, used-bytes, TakenIn}
+use Rattle.program.specs.Inner.Days.{GoodDay}
+use Rattle.program.specs.Inner.Machines.{machine-of, TakenIn}
 use Rattle.program.specs.Runs.{ChunkTaken}
-use Rattle.program.proofs.Feeding.Along.{after-append, printed-append}
-use Rattle.program.proofs.Feeding.Parts.{part-none, part-join, part-whole}
 
 -- so many bytes of the chunk are taken in, and all that they print is written
 pub record Along (first : State) (chunk : Bytes) (state : State) (used written : ℕ) : Type 0 where
@@ -22,12 +25,12 @@ pub record Along (first : State) (chunk : Bytes) (state : State) (used written :
   pub held : state .held .len ≤ most-held
   pub inside : used ≤ length chunk
   pub number : state .number ≤ first .number + used
-  pub machine : machine-of state ≡ after-bytes (machine-of first) (used-bytes chunk 0 used)
-  pub all : written ≡ length (printed-along (machine-of first) (used-bytes chunk 0 used))
-  pub few : written ≤ line-room * used
+  pub machine : machine-of state ≡ after-bytes (machine-of first) (part chunk 0 used)
+  pub all : written ≡ length (printed-along (machine-of first) (part chunk 0 used))
+  pub few : written ≤ answer-room * used
 
 pub along-none : (first : State) (chunk : Bytes) → GoodDay (first .day) → first .held .len ≤ most-held → Along first chunk first 0 0
-unfolding after-bytes printed-along line-room
+unfolding after-bytes answers-along printed-along printed-answers answer-room
 along-none first chunk g h =
     let e = part-none chunk 0 in
     record { good = g; held = h; inside = omega arith; number = omega arith; machine = rw e; all = rw e; few = omega arith }
@@ -38,9 +41,9 @@ module _ {first : State} {chunk : Bytes} {state : State} {used written : ℕ} (a
 
   -- all bytes are taken in
   pub along-whole : length chunk ≤ used → ChunkTaken first chunk (record { state = state; written = written; whole = true })
-  unfolding line-room
+  unfolding answer-room
   along-whole h =
-      let e : used-bytes chunk 0 used ≡ chunk = ap (used-bytes chunk 0) (omega (arith, a .inside)) ∙ part-whole chunk in
+      let e : part chunk 0 used ≡ chunk = ap (part chunk 0) (omega (arith, a .inside)) ∙ part-whole chunk in
       record {
         good = a .good;
         held = a .held;
@@ -53,17 +56,17 @@ module _ {first : State} {chunk : Bytes} {state : State} {used written : ℕ} (a
 
   module _ {f : Fed} {out out' : Bytes} (t : TakenIn state chunk used out 0 f out') where
     abbrev one : Bytes
-    one = used-bytes chunk 0 used
+    one = part chunk 0 used
 
     abbrev more : Bytes
-    more = used-bytes chunk used (f .used)
+    more = part chunk used (f .used)
 
-    joined : one ++ more ≡ used-bytes chunk 0 (f .used)
+    joined : one ++ more ≡ part chunk 0 (f .used)
     joined = part-join chunk 0 used (f .used) (omega arith) (t .forward) (t .inside)
 
     -- a part more
     pub along-more : Along first chunk (f .state) (f .used) (written + f .at)
-    unfolding line-room
+    unfolding answer-room
     along-more =
         record {
           good = t .good;
@@ -88,11 +91,11 @@ module _ {first : State} {chunk : Bytes} {state : State} {used written : ℕ} (a
 
     -- of what it prints, some is not written
     pub along-part : (put : ℕ) → put < f .at → ChunkTaken first chunk (record { state = f .state; written = written + put; whole = false })
-    unfolding line-room
+    unfolding answer-room
     along-part put h =
         let n = along-more in
-        let rest = used-bytes chunk (f .used) (length chunk) in
-        let u = used-bytes chunk 0 (f .used) in
+        let rest = part chunk (f .used) (length chunk) in
+        let u = part chunk 0 (f .used) in
         let e : u ++ rest ≡ chunk = part-join chunk 0 (f .used) (length chunk) (omega arith) (t .inside) (omega arith) ∙ part-whole chunk in
         record {
           good = n .good;

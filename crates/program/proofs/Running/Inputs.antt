@@ -6,15 +6,17 @@ use Prim.Native.Nat.{ℕ, _+_, _*_, _≤_}
 use native.Mathlib.Omega.{arith}
 use lib.ListN.{length, length-append}
 use Rattle.lines.specs.Bytes.{Bytes}
-use Rattle.lines.specs.Machine.{most-held, Machine, new-machine, after-bytes, printed-along}
+use Rattle.lines.specs.Output.{printed-answers}
+use Rattle.lines.specs.Machine.{most-held, Machine, new-machine, after-bytes, answers-along, printed-along}
+use Rattle.lines.proofs.Answers.{after-append, printed-append}
+use Rattle.answers.specs.Printed.{answer-room}
 use Rattle.program.specs.declared.feed.State.{State}
 use Rattle.program.specs.declared.run.Ended.the-variants.{WriteFailed, TooLong}
 use Rattle.program.specs.declared.run.Outcome.{Outcome}
 use Rattle.program.specs.declared.run.Taken.{Taken}
-use Rattle.program.specs.Inner.Days.{GoodDay, line-room}
+use Rattle.program.specs.Inner.Days.{GoodDay}
 use Rattle.program.specs.Inner.Machines.{machine-of, NewState}
 use Rattle.program.specs.Runs.{most-read, ChunkTaken, EndsSo, Ran, Stopped}
-use Rattle.program.proofs.Feeding.Along.{after-append, printed-append}
 use Rattle.program.proofs.Running.Whole.{output-length}
 
 -- so many bytes are read, and all that they print is written
@@ -26,10 +28,10 @@ pub record SoFar (state : State) (read written : ℕ) : Type 0 where
   pub number : state .number ≤ 1 + read
   pub machine : machine-of state ≡ after-bytes new-machine input
   pub all : written ≡ length (printed-along new-machine input)
-  pub few : written ≤ line-room * read
+  pub few : written ≤ answer-room * read
 
 pub nothing-read : {k : State} → NewState k → SoFar k 0 0
-unfolding after-bytes printed-along line-room
+unfolding after-bytes answers-along printed-along printed-answers answer-room
 nothing-read n =
     record {
       input = [];
@@ -70,7 +72,7 @@ module _ {state : State} {read written : ℕ} (s : SoFar state read written) whe
         )
 
     pub chunk-more : t .whole ≡ true → SoFar (t .state) (read + n) (written + t .written)
-    unfolding line-room
+    unfolding answer-room
     chunk-more h =
         record {
           input = both;

@@ -3,7 +3,7 @@ use mathlib.Core.Path.{_≡_, ap, _∙_}
 use Prim.Native.Nat.{_+_}
 use lib.ListN.{length, length-append}
 use Rattle.lines.specs.Bytes.{Bytes}
-use Rattle.lines.specs.Session.{output}
+use Rattle.lines.specs.Output.{output}
 use Rattle.lines.specs.Machine.{new-machine, after-bytes, printed-along, printed-at-end, ByteByByte}
 use Rattle.lines.proofs.ByteByByte.{byte-by-byte}
 
@@ -11,4 +11,4 @@ pub output-length : (input : Bytes)
     → length (output input) ≡ length (printed-along new-machine input) + length (printed-at-end (after-bytes new-machine input))
 unfolding ByteByByte
 output-length input =
-    ap length (byte-by-byte input) ∙ length-append (printed-along new-machine input) (printed-at-end (after-bytes new-machine input))
+    ap length (byte-by-byte input .printed) ∙ length-append (printed-along new-machine input) (printed-at-end (after-bytes new-machine input))

@@ -1,17 +1,19 @@
--- The day that the program holds between two lines, as a session; and what answering a line does.
+-- The day that the program holds between two lines, as a session; and what a line does.
 use mathlib.Core.Path.{_≡_}
 use mathlib.Core.Bool.{true, cond}
-use mathlib.Core.List.{List, [], _∷_, _++_}
+use mathlib.Core.List.{List}
 use mathlib.Core.Option.{none, some}
-use Prim.Native.Nat.{ℕ, _+_, _*_, _≤_}
-use lib.ListN.{length}
+use Prim.Native.Nat.{ℕ, _+_, _≤_}
+use lib.ListN.{length, take}
 use Rattle.board.specs.Limits.{places-held}
 use Rattle.board.specs.Sound.{sound}
-use Rattle.lines.specs.Bytes.{Bytes, letter-G}
-use Rattle.lines.specs.Printing.{printed}
-use Rattle.lines.specs.Session.{Session, Answer, answer}
-use Rattle.printing.specs.Lines.{room, put}
+use Rattle.lines.specs.Bytes.{Bytes}
+use Rattle.lines.specs.Session.{Session, Step, step}
+use Rattle.lines.specs.Output.{printed-answer}
+use Rattle.printing.specs.Lines.{put}
+use Rattle.answers.specs.Printed.{answer-of, answer-room}
 use Rattle.program.specs.declared.session.Day.{Day}
+use Rattle.program.specs.declared.session.Stepped.{Stepped}
 use Rattle.program.specs.declared.session.DayAfter.{DayAfter}
 
 unfoldable pub session-of : Day → Session
@@ -21,33 +23,27 @@ session-of d = record { board = cond (d .opened) (some (d .board)) none; tally =
 unfoldable pub GoodDay : Day → Type 0
 GoodDay d = d .opened ≡ true → sound (d .board) ≡ true
 
--- bytes that are enough for what one line prints: a B line, and a G line for each job that a board holds
-unfoldable pub line-room : ℕ
-unfolding places-held room
-line-room = (1 + places-held) * room
-
--- bytes put at `at` in the buffer, so many at the most, which end at `r`
-pub record PutWithin (most : ℕ) (bs out : Bytes) (at r : ℕ) (out' : Bytes) : Type 0 where
-  pub end : r ≡ at + length bs
-  pub within : r ≤ at + most
-  pub bytes : out' ≡ put out at bs
-
--- an answer given: the day after it is the answer's session, and the answer's bytes stand at `at` in the buffer
-pub record Given (a : Answer) (out : Bytes) (at : ℕ) (r : DayAfter) (out' : Bytes) : Type 0 where
+-- a step done: the day after it is the step's session, and its answer has the jobs given up first in two lists
+pub record Did (a : Step) (r : Stepped) (tickets grades : List ℕ) : Type 0 where
   pub good : GoodDay (r .day)
   pub session : session-of (r .day) ≡ a .session
-  pub end : r .at ≡ at + length (a .output)
-  pub within : r .at ≤ at + line-room
-  pub bytes : out' ≡ put out at (a .output)
+  pub few : r .listed ≤ places-held
+  pub answer : answer-of (r .answer) (take (r .listed) tickets) (take (r .listed) grades) ≡ a .answer
+
+-- without any such job, whatever the lists hold
+abbrev pub DidAlone : Step → Stepped → Type 0
+DidAlone a r = (tickets grades : List ℕ) → Did a r tickets grades
+
+-- these bytes printed at `at` in the buffer, no more than an answer has, and the day after them has this session
+pub record Given (bs : Bytes) (s : Session) (out : Bytes) (at : ℕ) (r : DayAfter) (out' : Bytes) : Type 0 where
+  pub good : GoodDay (r .day)
+  pub session : session-of (r .day) ≡ s
+  pub end : r .at ≡ at + length bs
+  pub within : r .at ≤ at + answer-room
+  pub bytes : out' ≡ put out at bs
 
 -- a line answered: the session is the definition's, and so are the bytes
 abbrev pub Answered : (day : Day) (number : ℕ) (line out : Bytes) (at : ℕ) (r : DayAfter) (out' : Bytes) → Type 0
-Answered day number line out at r out' = Given (answer (session-of day) number line) out at r out'
-
--- The parts of a closing, which find the jobs given up in the lists that a closing fills.
-
--- a G line for each ticket, with its grade
-unfoldable pub printed-each : ℕ → (tickets grades : List ℕ) → Bytes
-printed-each k [] G = []
-printed-each k (t ∷ T) [] = []
-printed-each k (t ∷ T) (g ∷ G) = printed letter-G (k ∷ t ∷ g ∷ []) ++ printed-each k T G
+Answered day number line out at r out' =
+    let a = step (session-of day) line in
+    Given (printed-answer number (a .answer)) (a .session) out at r out'

@@ -1,16 +1,17 @@
 -- `feed`: what was taken in, and a line more.
-use mathlib.Core.Path.{_≡_, sym}
+use mathlib.Core.Path.{sym}
 use Prim.Native.Nat.{_+_, _-_, _≤_, _<_}
 use native.Mathlib.Omega.{arith}
 use borrow.Author.Needs.{needs}
 use borrow.Author.Tests.{leb-true, leb-false}
-use lib.ListN.{length, take}
+use lib.ListN.{length}
 use lib.Seq.{length-take-le}
 use Rattle.program.specs.declared.feed.State.{State}
-use Rattle.program.specs.Inner.Days.{line-room}
-use Rattle.program.specs.Inner.Machines.{held-bytes, TakenIn}
-use Rattle.program.proofs.Feeding.Known.{held-room}
-use Rattle.program.proofs.Feeding.LineTaken.{taken-part, taken-line}
+use Rattle.cutting.specs.Cut.{held-bytes}
+use Rattle.answers.specs.Printed.{answer-room}
+use Rattle.program.specs.Inner.Machines.{TakenIn}
+use Rattle.program.proofs.Feeding.Known.{cut-room}
+use Rattle.program.proofs.Feeding.LineTaken.{further, used-inside, cut-part, cut-all, cut-line}
 use Rattle.program.proofs.Feeding.Taken.{taken-none, kept-length, taken-join, stops-full, stops-at-end}
 use Rattle.program.proofs.feed.feed.Statement.{statement}
 use Rattle.program.proofs.feed.feed.Tie as tie
@@ -39,31 +40,22 @@ loop-holds c =
 add-if1 : tie.Need-add-if1 Inv-loop μ-loop
 add-if1 c = search needs
 
-line-end-requires : tie.Need-line-end-requires Inv-loop μ-loop
-line-end-requires c κs = search needs
-
-hold-part-requires : tie.Need-hold-part-requires Inv-loop μ-loop
-hold-part-requires c κs =
-    let l = c .before .before .before .loop in
-    (l .inv .held, c .line-end .ensures .forward, c .line-end .ensures .inside)
+cut-line-requires : tie.Need-cut-line-requires Inv-loop μ-loop
+cut-line-requires c κs = search needs
 
 -- so many bytes are held
-full : (c : tie.After-hold-part Inv-loop μ-loop) → length (take (c .hold-part .result .len) (c .hold-part .result .bytes)) ≡ c .hold-part .result .len
-full c =
-    let h = c .hold-part .result in
-    length-take-le (h .len) (h .bytes) (omega (arith, held-room h _ (c .hold-part .ok), c .hold-part .ensures .0))
+room-held : (c : tie.After-cut-line Inv-loop μ-loop) → c .cut-line .result .held .len ≤ length (c .cut-line .result .held .bytes)
+room-held c = omega (arith, cut-room (c .cut-line .result) _ (c .cut-line .ok), c .cut-line .ensures .few)
 
 array-share-prefix-bytes : tie.Need-array-share-prefix-bytes Inv-loop μ-loop
-array-share-prefix-bytes c =
-    let p = c .before .before .hold-part in
-    omega (arith, held-room (p .result) _ (p .ok), p .ensures .0)
+array-share-prefix-bytes c = room-held (c .before .before .before)
 
 slice-aggregate-answer-line : tie.Need-slice-aggregate-answer-line Inv-loop μ-loop
-slice-aggregate-answer-line c = sym (full (c .before .before .before))
+slice-aggregate-answer-line c = sym (length-take-le _ _ (room-held (c .before .before .before .before)))
 
 -- there is room for what a line prints
-room : (c : tie.Then1 Inv-loop μ-loop) → c .before .before .loop .end + line-room ≤ length (c .before .before .loop .out)
-unfolding line-room
+room : (c : tie.Then1 Inv-loop μ-loop) → c .before .before .loop .end + answer-room ≤ length (c .before .before .loop .out)
+unfolding answer-room
 room c = leb-true _ _ (c .if1 .taken)
 
 answer-line-requires : tie.Need-answer-line-requires Inv-loop μ-loop
@@ -71,62 +63,59 @@ answer-line-requires c κs =
     let t = c .before .before .before .before .before .before in
     (t .before .before .loop .inv .good, room t)
 
+-- the turn in which a line ends, and its beginning
+abbrev turn : tie.Then2 Inv-loop μ-loop → tie.At-loop Inv-loop μ-loop
+turn u = u .before .before .before .before .before
+
 add-number : tie.Need-add-number Inv-loop μ-loop
 add-number c =
     let u = c .before .before .before .before .before .before .before in
-    let e = u .before .before in
-    let l = e .before .before .before in
+    let l = turn u in
     let s = l .before .before .before .before .before in
-    omega (arith, l .loop .inv .number, e .line-end .ensures .forward, u .if2 .taken, s .pre .1 .1)
-
-add-used : tie.Need-add-used Inv-loop μ-loop
-add-used c =
-    let u = c .before .before .before .before .before .before .before in
-    let s = u .before .before .before .before .before .before .before .before .before .before in
-    omega (arith, u .if2 .taken, s .good)
+    let k = u .before .before .cut-line .ensures in
+    omega (arith, l .loop .inv .number, l .loop .inv .inside, s .pre .1 .1)
 
 loop-less : tie.Need-loop-less Inv-loop μ-loop
 loop-less c =
     let u = c .before .before .before .before .before .before .before in
-    omega (arith, u .before .before .line-end .ensures .forward, u .if2 .taken)
+    let l = turn u in
+    let s = l .before .before .before .before .before in
+    let k = u .before .before .cut-line .ensures in
+    omega (arith, further (state-at l) (s .args .chunk .now) (l .loop .used) (l .loop .out) (l .loop .end) (l .loop .inv .inside) k (u .if2 .taken), used-inside (state-at l) (s .args .chunk .now) (l .loop .used) (l .loop .out) (l .loop .end) (l .loop .inv .inside) k (u .if2 .taken))
 
 loop-again : tie.Need-loop-again Inv-loop μ-loop
 unfolding held-bytes
 loop-again c =
     let u = c .before .before .before .before .before .before .before in
-    let h = u .before .hold-part in
-    let e = u .before .before .line-end in
-    let t = u .before .before .before in
-    let l = t .before .before in
+    let l = turn u in
     let s = l .before .before .before .before .before in
+    let k = u .before .before .cut-line in
     let r = c .before .before .before .answer-line in
     taken-join (l .loop .inv)
-    (taken-line (state-at l) (s .args .chunk .now) (l .loop .used) (e .result) (l .loop .out) (l .loop .end) (e .ensures)
-    (h .result) (h .ensures .1) (u .if2 .taken) (r .result) (r .last .1 .1 .1 .0) (r .ensures) (h .result .bytes) (room t))
+    (cut-line (state-at l) (s .args .chunk .now) (l .loop .used) (l .loop .out) (l .loop .end) (l .loop .inv .inside) (k .ensures) (u .if2 .taken)
+    (r .result) (r .last .1 .1 .1 .0) (r .ensures) (k .result .held .bytes) (room (u .before .before .before)))
 
 loop-less-2 : tie.Need-loop-less-2 Inv-loop μ-loop
 loop-less-2 c =
-    let e = c .before .before in
-    omega (arith, c .if2 .left, e .line-end .ensures .forward, e .before .before .loop-test .taken)
+    let l = c .before .before .before .before .before in
+    let s = l .before .before .before .before .before in
+    omega (arith, cut-all (state-at l) (s .args .chunk .now) (l .loop .used) (l .loop .out) (l .loop .end) (l .loop .inv .inside) (c .before .before .cut-line .ensures) (c .if2 .left), c .before .before .before .before .loop-test .taken)
 
 loop-again-2 : tie.Need-loop-again-2 Inv-loop μ-loop
 loop-again-2 c =
-    let h = c .before .hold-part in
-    let e = c .before .before .line-end in
-    let t = c .before .before .before in
-    let l = t .before .before in
+    let l = c .before .before .before .before .before in
     let s = l .before .before .before .before .before in
     let v = l .loop .inv in
     taken-join v
-    (taken-part (state-at l) (s .args .chunk .now) (l .loop .used) (e .result) (l .loop .out) (l .loop .end) (e .ensures)
-    (h .result) (h .ensures .1) (v .good) (h .ensures .0) (omega (arith, room t)))
+    (cut-part (state-at l) (s .args .chunk .now) (l .loop .used) (l .loop .out) (l .loop .end) (v .inside) (c .before .before .cut-line .ensures) (c .if2 .left)
+    (v .good) (omega (arith, room (c .before .before .before))))
 
 same-length : tie.Need-same-length Inv-loop μ-loop
 same-length c = kept-length (c .before .before .loop .inv)
 
 -- or there is not
-no-room : (c : tie.Else1 Inv-loop μ-loop) → length (c .before .before .loop .out) < c .before .before .loop .end + line-room
-unfolding line-room
+no-room : (c : tie.Else1 Inv-loop μ-loop) → length (c .before .before .loop .out) < c .before .before .loop .end + answer-room
+unfolding answer-room
 no-room c = leb-false _ _ (c .if1 .left)
 
 returns : tie.Need-returns Inv-loop μ-loop
@@ -150,13 +139,11 @@ feed-spec =
     μ-loop
     loop-holds
     add-if1
-    line-end-requires
-    hold-part-requires
+    cut-line-requires
     array-share-prefix-bytes
     slice-aggregate-answer-line
     answer-line-requires
     add-number
-    add-used
     loop-less
     loop-again
     loop-less-2

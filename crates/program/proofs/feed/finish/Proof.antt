@@ -8,23 +8,24 @@ use borrow.Author.Needs.{needs}
 use borrow.Author.Tests.{not-true, not-false}
 use lib.ListN.{length}
 use Rattle.board.specs.Limits.{deepest}
-use Rattle.board.specs.Tally.{tally-grades}
 use Rattle.board.proofs.Soundness.Apart.{facts}
 use Rattle.board.proofs.Tallies.CountAt.{grades-counted}
 use Rattle.lines.specs.Bytes.{Bytes}
-use Rattle.lines.specs.Session.{printed-tally}
+use Rattle.lines.specs.Output.{printed-tally}
 use Rattle.lines.specs.Machine.{printed-at-end}
 use Rattle.printing.specs.Lines.{put}
-use Rattle.program.specs.Inner.Days.{GoodDay, line-room}
-use Rattle.program.specs.Inner.Machines.{machine-of, end-room, last-answer}
-use Rattle.program.proofs.Answering.Pieces.{all-left, fewer-left}
+use Rattle.answers.specs.Printed.{answer-room, tally-room, tally-fits}
+use Rattle.answers.proofs.Pieces.{all-left, fewer-left}
+use Rattle.answers.proofs.Room.{fits-put, tally-fitting}
+use Rattle.program.specs.Inner.Days.{GoodDay}
+use Rattle.program.specs.Inner.Machines.{machine-of}
 use Rattle.board.proofs.Grades.{grades-of}
-use Rattle.program.proofs.Feeding.Ending.{end-closed, end-open}
+use Rattle.program.proofs.Feeding.Ending.{last-printed, end-closed, end-open}
 use Rattle.program.proofs.feed.finish.Statement.{statement}
 use Rattle.program.proofs.feed.finish.Tie as tie
 
 last-line-requires : tie.Need-last-line-requires
-unfolding line-room end-room
+unfolding answer-room tally-room
 last-line-requires c κs =
     let s = c .before .before in
     (s .pre .0, (s .pre .1 .0, omega (arith, s .pre .1 .1)))
@@ -33,7 +34,7 @@ same-length : tie.Need-same-length
 same-length c = search needs
 
 returns : tie.Need-returns
-unfolding line-room end-room
+unfolding answer-room tally-room
 returns c =
     let r = c .before .before .before .before .before in
     let s = r .before .before .before in
@@ -71,29 +72,33 @@ cast-grades : tie.Need-cast-grades
 cast-grades c = search needs
 
 print-tally-requires : tie.Need-print-tally-requires
-unfolding line-room end-room deepest
-print-tally-requires c κs =
-    let g = c .before .before in
+print-tally-requires c κs = search needs
+
+-- the tally fits
+fits : (g : tie.After-grades) →
+    let r = at-last (g .before) in
+    tally-fits (g .grades .result) (r .last-line .result .at) (length (r .last-line .last .1 .0)) ≡ true
+unfolding deepest
+fits g =
     let r = at-last (g .before) in
     let s = r .before .before .before in
-    let few : g .grades .result ≤ tally-grades = omega (arith, grades g, grades-counted (shallow (g .before))) in
-    (few, omega (arith, r .last-line .ensures .within, r .last-line .kept .1 .0, s .pre .1 .1))
+    tally-fitting _ _ _ (omega (arith, grades g, grades-counted (shallow (g .before)))) (omega (arith, r .last-line .ensures .within, r .last-line .kept .1 .0, s .pre .1 .1))
 
 same-length-2 : tie.Need-same-length-2
 same-length-2 c = search needs
 
 returns-2 : tie.Need-returns-2
-unfolding end-room
+unfolding tally-room
 returns-2 c =
-    let p = c .before .before .print-tally .ensures in
     let g = c .before .before .before .before .before in
+    let p = fits-put _ (fits g) (c .before .before .print-tally .ensures) in
     let r = at-last (g .before) in
     let s = r .before .before .before in
     let a = s .args in
     let l = r .last-line .ensures in
     let d = r .last-line .result .day in
     let m = machine-of (a .state) in
-    let first = last-answer m .output in
+    let first = last-printed m in
     let second = printed-tally (g .grades .result) 0 (d .tally) in
     let e : printed-at-end m ≡ first ++ second =
     end-open m d (l .session) (opened (g .before)) ∙ ap (λ (n : ℕ). first ++ printed-tally n 0 (d .tally)) (sym (grades g))
@@ -107,7 +112,7 @@ returns-2 c =
     in
     record {
       end = p .end ∙ left .end ∙ ap (λ (x : Bytes). a .at + length x) (sym e);
-      fits = omega (arith, p .fits, r .last-line .kept .1 .0);
+      fits = omega (arith, p .within, l .within, s .pre .1 .1);
       bytes = p .bytes ∙ left .bytes ∙ ap (put (a .out .now) (a .at)) (sym e);
     }
 

@@ -5,11 +5,12 @@ use native.Mathlib.Omega.{arith}
 use borrow.Author.Needs.{needs}
 use lib.ListN.{length, take}
 use lib.Seq.{length-take-le}
-use Rattle.lines.specs.Session.{Answer}
+use Rattle.lines.specs.Bytes.{Bytes}
 use Rattle.printing.specs.Lines.{put}
 use Rattle.printing.proofs.Puts.{put-none}
-use Rattle.program.specs.Inner.Machines.{held-bytes, machine-of}
-use Rattle.program.proofs.Feeding.Ending.{last-none, last-begun}
+use Rattle.cutting.specs.Cut.{held-bytes}
+use Rattle.program.specs.Inner.Machines.{machine-of}
+use Rattle.program.proofs.Feeding.Ending.{none-printed, none-after, begun-printed, begun-after}
 use Rattle.program.proofs.Feeding.Known.{state-room}
 use Rattle.program.proofs.feed.last_line.Statement.{statement}
 use Rattle.program.proofs.feed.last_line.Tie as tie
@@ -25,10 +26,12 @@ unfolding machine-of held-bytes
 returns c =
     let s = c .before .before .before .before in
     let a = s .args in
-    let e = last-none (machine-of (a .state)) (full s ∙ c .if1 .taken) in
+    let m = machine-of (a .state) in
+    let none = full s ∙ c .if1 .taken in
+    let e = none-printed m none in
     record {
       good = s .pre .0;
-      session = sym (ap (λ (x : Answer). x .session) e);
+      session = sym (none-after m none);
       end = rw e (omega arith);
       within = omega arith;
       bytes = rw e (sym (put-none (a .out .now) (a .at)));
@@ -54,14 +57,16 @@ returns-2 c =
     let t = c .before .before .before .before .before .before in
     let s = t .before .before .before .before in
     let a = s .args in
+    let m = machine-of (a .state) in
+    let begun : length (m .held) ≡ 0 → ⊥ = λ z. t .if1 .left (sym (full s) ∙ z) in
     let r = c .before .before .answer-line .ensures in
-    let e = last-begun (machine-of (a .state)) (λ z. t .if1 .left (sym (full s) ∙ z)) in
+    let e = begun-printed m begun in
     record {
       good = r .good;
-      session = r .session ∙ sym (ap (λ (x : Answer). x .session) e);
-      end = r .end ∙ sym (ap (λ (x : Answer). a .at + length (x .output)) e);
+      session = r .session ∙ sym (begun-after m begun);
+      end = r .end ∙ sym (ap (λ (x : Bytes). a .at + length x) e);
       within = r .within;
-      bytes = r .bytes ∙ sym (ap (λ (x : Answer). put (a .out .now) (a .at) (x .output)) e);
+      bytes = r .bytes ∙ sym (ap (put (a .out .now) (a .at)) e);
     }
 
 pub last-line-spec : {M : Type 1} → statement M

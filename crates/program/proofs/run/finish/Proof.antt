@@ -5,14 +5,14 @@ use borrow.Author.Needs.{needs}
 use lib.ListN.{length}
 use lib.Seq.{length-take-le}
 use Rattle.lines.specs.Machine.{Machine, printed-at-end}
-use Rattle.program.specs.Inner.Machines.{end-room}
+use Rattle.answers.specs.Printed.{answer-room, tally-room}
 use Rattle.program.specs.Runs.{buffer-length, EndsSo}
 use Rattle.program.proofs.Running.Whole.{output-length}
 use Rattle.program.proofs.run.finish.Statement.{statement}
 use Rattle.program.proofs.run.finish.Tie as tie
 
 finish-requires : tie.Need-finish-requires
-unfolding end-room buffer-length
+unfolding answer-room tally-room buffer-length
 finish-requires c κs =
     let p = c .before .before .pre in
     (p .0, (p .1 .0, omega (arith, p .1 .1)))

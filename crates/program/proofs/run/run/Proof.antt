@@ -8,7 +8,7 @@ use borrow.Author.Tests.{not-true, not-false}
 use lib.ListN.{length, take}
 use lib.Seq.{length-take-le}
 use Rattle.streams.specs.Got.{Within}
-use Rattle.program.specs.Inner.Days.{line-room}
+use Rattle.answers.specs.Printed.{answer-room}
 use Rattle.program.specs.Runs.{buffer-length, most-read}
 use Rattle.program.proofs.Running.Inputs.{SoFar, nothing-read, stopped, too-long, chunk-more, chunk-part}
 use Rattle.program.proofs.run.run.Statement.{statement}
@@ -49,7 +49,7 @@ unfolding buffer-length
 slice-aggregate-stop c = sym (c .before .before .before .before .before .before .loop .inv .2)
 
 stop-requires : tie.Need-stop-requires Inv-loop μ-loop
-unfolding most-read line-room buffer-length
+unfolding most-read answer-room buffer-length
 stop-requires c κs =
     let v = c .before .before .before .before .before .before .loop .inv in
     let t = c .before .before .before .before .before .loop-test .taken in
@@ -108,7 +108,7 @@ add-read c =
     omega (arith, some g .1, g .before .before .before .before .before .loop-test .taken)
 
 add-written : tie.Need-add-written Inv-loop μ-loop
-unfolding buffer-length most-read line-room
+unfolding buffer-length most-read answer-room
 add-written c =
     let t = c .before .before .before in
     let g = t .before .before .before .before in

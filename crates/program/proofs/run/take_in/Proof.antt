@@ -5,7 +5,7 @@ use native.Mathlib.Omega.{arith}
 use borrow.Author.Needs.{needs}
 use lib.ListN.{length}
 use lib.Seq.{length-take-le}
-use Rattle.program.specs.Inner.Days.{line-room}
+use Rattle.answers.specs.Printed.{answer-room}
 use Rattle.program.specs.Runs.{buffer-length}
 use Rattle.program.proofs.Feeding.Taken.{kept-length}
 use Rattle.program.proofs.Running.Chunks.{Along, along-none, along-whole, along-more, along-part}
@@ -51,7 +51,7 @@ write-all-requires : tie.Need-write-all-requires Inv-loop μ-loop
 write-all-requires c κs = search needs
 
 add-written : tie.Need-add-written Inv-loop μ-loop
-unfolding line-room buffer-length
+unfolding answer-room buffer-length
 add-written c =
     let f = c .before .before .before .before .before in
     let l = f .before .before .before in
@@ -79,7 +79,7 @@ returns c =
     along-part (before-it w .loop .inv .0) (fed w .feed .ensures .0) (w .write-all .result) (c .if1 .taken)
 
 loop-less : tie.Need-loop-less Inv-loop μ-loop
-unfolding line-room buffer-length
+unfolding answer-room buffer-length
 loop-less c =
     let w = c .before in
     let l = before-it w in

@@ -1,97 +1,90 @@
--- `program::session::answer_line`: each request has its function. Assumes nothing.
-use mathlib.Core.Path.{sym, ap, _∙_}
+-- `program::session::answer_line`: the step's answer is printed. Assumes nothing.
+use mathlib.Core.Path.{refl, sym, ap, _∙_}
+use Prim.Native.Nat.{_+_, _≤_}
+use native.Mathlib.Omega.{arith}
 use borrow.Author.Needs.{needs}
-use Rattle.reading.specs.Answers.{asked-result}
-use Rattle.program.proofs.Answering.Answers.{given-as}
-use Rattle.program.proofs.Answering.Requests.{line-refused, line-opens, open-for-admit, line-admits, open-for-close, line-closes}
+use lib.ListN.{length, take}
+use lib.Seq.{length-take-le}
+use Rattle.board.specs.Limits.{places-held}
+use Rattle.lines.specs.Bytes.{Bytes}
+use Rattle.lines.specs.Output.{printed-answer}
+use Rattle.printing.specs.Lines.{put}
+use Rattle.answers.proofs.Room.{fits-put, fits-answer}
 use Rattle.program.proofs.session.answer_line.Statement.{statement}
 use Rattle.program.proofs.session.answer_line.Tie as tie
 
-read-line-requires : tie.Need-read-line-requires
-read-line-requires c κs = search needs
+slice-aggregate-step-line : tie.Need-slice-aggregate-step-line
+slice-aggregate-step-line c = search needs
 
-enum-known-asked : tie.Need-enum-known-asked
-enum-known-asked c = search needs
+slice-aggregate-step-line-2 : tie.Need-slice-aggregate-step-line-2
+slice-aggregate-step-line-2 c = search needs
 
-open-line-requires : tie.Need-open-line-requires
-open-line-requires c κs = search needs
+slice-aggregate-step-line-3 : tie.Need-slice-aggregate-step-line-3
+slice-aggregate-step-line-3 c = search needs
 
-enum-known-asked-2 : tie.Need-enum-known-asked-2
-enum-known-asked-2 c = search needs
+-- the jobs given up are listed in both lists
+in-tickets : (c : tie.After-step-line) → c .step-line .result .listed ≤ length (c .step-line .last .1 .1 .0)
+unfolding places-held
+in-tickets c = omega (arith, c .step-line .ensures .few, c .step-line .kept .1 .1 .0)
 
-admit-line-requires : tie.Need-admit-line-requires
-admit-line-requires c κs =
-    let m = c .before .before in
-    let r = m .before .before in
-    let s = r .before .before .before in
-    (s .pre .0, (open-for-admit _ _ _ _ _ (sym (ap asked-result (m .asked2 .given .1)) ∙ r .read-line .ensures), s .pre .1))
+in-grades : (c : tie.After-step-line) → c .step-line .result .listed ≤ length (c .step-line .last .1 .1 .1 .0)
+unfolding places-held
+in-grades c = omega (arith, c .step-line .ensures .few, c .step-line .kept .1 .1 .1 .0)
 
-enum-told : tie.Need-enum-told
-enum-told c = search needs
+step-line-requires : tie.Need-step-line-requires
+unfolding places-held
+step-line-requires c κs = (c .before .before .before .before .before .pre .0, (refl, refl, refl))
 
-close-line-requires : tie.Need-close-line-requires
-close-line-requires c κs =
-    let m = c .before in
-    let r = m .before .before in
-    let s = r .before .before .before in
-    (s .pre .0, (open-for-close _ _ (sym (ap asked-result (m .enum-told .given .1)) ∙ r .read-line .ensures), s .pre .1))
+array-share-prefix-tickets : tie.Need-array-share-prefix-tickets
+array-share-prefix-tickets c = in-tickets (c .before .before .before)
 
-enum-known-asked-3 : tie.Need-enum-known-asked-3
-enum-known-asked-3 c = search needs
+slice-aggregate-print-answer : tie.Need-slice-aggregate-print-answer
+slice-aggregate-print-answer c = sym (length-take-le _ _ (in-tickets (c .before .before .before .before)))
 
-refuse-requires : tie.Need-refuse-requires
-refuse-requires c κs = search needs
+array-share-prefix-grades : tie.Need-array-share-prefix-grades
+array-share-prefix-grades c = in-grades (c .before .before .before .before)
+
+slice-aggregate-print-answer-2 : tie.Need-slice-aggregate-print-answer-2
+slice-aggregate-print-answer-2 c = sym (length-take-le _ _ (in-grades (c .before .before .before .before .before)))
+
+print-answer-requires : tie.Need-print-answer-requires
+print-answer-requires c κs = search needs
 
 same-length : tie.Need-same-length
 same-length c = search needs
 
 returns : tie.Need-returns
 returns c =
-    let m = c .before .before .before .before .before in
-    given-as (line-opens _ _ _ _ (sym (ap asked-result (m .asked .given .1)) ∙ m .before .before .read-line .ensures)) (c .before .before .open-line .ensures)
-
-same-length-2 : tie.Need-same-length-2
-same-length-2 c = search needs
-
-returns-2 : tie.Need-returns-2
-returns-2 c =
-    let m = c .before .before .before .before .before in
-    given-as (line-admits _ _ _ _ _ _ (sym (ap asked-result (m .asked2 .given .1)) ∙ m .before .before .read-line .ensures)) (c .before .before .admit-line .ensures)
-
-same-length-3 : tie.Need-same-length-3
-same-length-3 c = search needs
-
-returns-3 : tie.Need-returns-3
-returns-3 c =
-    let m = c .before .before .before .before in
-    given-as (line-closes _ _ _ (sym (ap asked-result (m .enum-told .given .1)) ∙ m .before .before .read-line .ensures)) (c .before .before .close-line .ensures)
-
-same-length-4 : tie.Need-same-length-4
-same-length-4 c = search needs
-
-returns-4 : tie.Need-returns-4
-returns-4 c =
-    let m = c .before .before .before .before .before in
-    given-as (line-refused _ _ _ _ (sym (ap asked-result (m .asked3 .given .1)) ∙ m .before .before .read-line .ensures)) (c .before .before .refuse .ensures)
+    let t = c .before .before .before .before .before .before .before .before .before .before in
+    let s = t .before .before .before .before .before .before in
+    let a = s .args in
+    let d = t .step-line .ensures in
+    let listed = t .step-line .result .listed in
+    let n = length-take-le listed (t .step-line .last .1 .1 .0) (in-tickets t) in
+    let few : length (take listed (t .step-line .last .1 .1 .0)) ≤ places-held = omega (arith, n, d .few) in
+    let fits = fits-answer _ _ _ _ few (length-take-le _ _ (in-grades t) ∙ sym n) (s .pre .1) in
+    let p = fits-put _ fits (c .before .before .before .print-answer .ensures) in
+    let e = ap (printed-answer (a .number)) (d .answer) in
+    record {
+      good = d .good;
+      session = d .session;
+      end = p .end ∙ ap (λ (x : Bytes). a .at + length x) e;
+      within = p .within;
+      bytes = p .bytes ∙ ap (put (a .out .now) (a .at)) e;
+    }
 
 pub answer-line-spec : {M : Type 1} → statement M
 answer-line-spec =
     tie.close
     (tie.spec
-    read-line-requires
-    enum-known-asked
-    open-line-requires
-    enum-known-asked-2
-    admit-line-requires
-    enum-told
-    close-line-requires
-    enum-known-asked-3
-    refuse-requires
+    slice-aggregate-step-line
+    slice-aggregate-step-line-2
+    slice-aggregate-step-line-3
+    step-line-requires
+    array-share-prefix-tickets
+    slice-aggregate-print-answer
+    array-share-prefix-grades
+    slice-aggregate-print-answer-2
+    print-answer-requires
     same-length
-    returns
-    same-length-2
-    returns-2
-    same-length-3
-    returns-3
-    same-length-4
-    returns-4)
+    returns)

@@ -1,0 +1,5 @@
+pub mod Pieces
+pub mod Buffers
+pub mod Room
+pub mod Jobs
+pub mod Tallies

@@ -1,0 +1,208 @@
+// What the program prints: an answer's lines, and the tally's.
+ghost use mathlib.Core.Path.{_≡_};
+ghost use Prim.Native.Nat.{_+_, _*_, _≤_, _<_};
+ghost use lib.Dec.{leb};
+ghost use lib.ListN.{length};
+ghost use Rattle.board.specs.Limits.{places-held};
+ghost use Rattle.board.specs.Tally.{tally-kinds, tally-grades, count-at};
+ghost use Rattle.lines.specs.Printing.{printed};
+ghost use Rattle.lines.specs.Output.{printed-given-up, printed-closing, printed-answer, printed-tally};
+ghost use Rattle.printing.specs.Lines.{line-numbers, room};
+ghost use Rattle.answers.specs.Printed.{jobs-of, closing-of, answer-of, answer-room, answer-fits, tally-room, tally-fits, PutIf};
+ghost use Rattle.answers.specs.Inner.Put.{PutWithin};
+use board::Board;
+use board::Slot;
+use board::Tally;
+use printing::Line;
+
+// What a line is answered: the number of a refusal; the depth opened; the ticket admitted and its last slot; the slot closed, and the ticket and
+// grade baked. The jobs given up stand beside it in two lists, tickets and grades.
+pub enum Answer {
+    Refused(u8),
+    Opened(u32),
+    Admitted(u32, Slot),
+    Closed(Slot, u32, u8),
+}
+
+// Bytes that are enough for any answer: a B line, and a G line for each job that a board holds.
+pub const ANSWER_ROOM: usize = (1 + Board::PLACES) * Line::ROOM;
+
+// Bytes that are enough for the tally.
+pub const TALLY_ROOM: usize = Tally::GRADES * Line::ROOM;
+
+// Prints a line at `at`; where it ends.
+fn print_at(out: &mut [u8], at: usize, letter: u8, numbers: &[u64]) -> usize
+    requires { ⌜ (length (now numbers) ≤ line-numbers) × (at + room ≤ length (now out)) ⌝ }
+    ensures { λ r. ⌜ PutWithin room (printed letter (now (numbers .entry))) (now (out .entry)) at r (now (out .exit)) ⌝ }
+{
+    let l = printing::print_line(letter, numbers);
+    printing::put_line(out, at, l)
+}
+
+// Prints a line for each job given up; where the last one ends.
+fn print_given_up(slot: Slot, tickets: &[u32], grades: &[u8], out: &mut [u8], at: usize) -> usize
+    requires { ⌜ length (now grades) ≡ length (now tickets) ⌝ }
+    requires { ⌜ at + length (now tickets) * room ≤ length (now out) ⌝ }
+    ensures { λ r.
+        let lines = printed-given-up (slot .0) (jobs-of (now (tickets .entry)) (now (grades .entry))) in
+        ⌜ PutWithin (length (now (tickets .entry)) * room) lines (now (out .entry)) at r (now (out .exit)) ⌝ }
+{
+    let mut end = at;
+    let mut i: usize = 0;
+    while i < tickets.len() {
+        end = print_at(
+            out,
+            end,
+            b'G',
+            &[slot.0 as u64, tickets[i] as u64, grades[i] as u64],
+        );
+        i += 1;
+    }
+    end
+}
+
+// Prints a closing: its B line, and then the G lines.
+fn print_closing(
+    slot: Slot,
+    ticket: u32,
+    grade: u8,
+    tickets: &[u32],
+    grades: &[u8],
+    out: &mut [u8],
+    at: usize,
+) -> usize
+    requires { ⌜ (length (now tickets) ≤ places-held) × (length (now grades) ≡ length (now tickets)) × (at + answer-room ≤ length (now out)) ⌝ }
+    ensures { λ r.
+        let lines = printed-closing (closing-of slot ticket grade (now (tickets .entry)) (now (grades .entry))) in
+        ⌜ PutWithin answer-room lines (now (out .entry)) at r (now (out .exit)) ⌝ }
+{
+    let mid = print_at(
+        out,
+        at,
+        b'B',
+        &[
+            slot.0 as u64,
+            ticket as u64,
+            grade as u64,
+            tickets.len() as u64,
+        ],
+    );
+    print_given_up(slot, tickets, grades, out, mid)
+}
+
+// Whether so many bytes end at `end` or before where they start at `at`.
+fn room_for(most: usize, at: usize, end: usize) -> bool
+    ensures { λ r. ⌜ r ≡ leb (at + most) end ⌝ }
+{
+    if end < at {
+        return false;
+    }
+    most <= end - at
+}
+
+// Whether an answer may be printed: with no more jobs than a board holds, as many grades as tickets, and room for any answer.
+fn answer_fits(tickets: usize, grades: usize, at: usize, end: usize) -> bool
+    ensures { λ r. ⌜ r ≡ answer-fits tickets grades at end ⌝ }
+{
+    if Board::PLACES < tickets {
+        return false;
+    }
+    if grades != tickets {
+        return false;
+    }
+    room_for(ANSWER_ROOM, at, end)
+}
+
+// Prints an answer where there is room for any.
+fn print_fitting(
+    number: u64,
+    answer: Answer,
+    tickets: &[u32],
+    grades: &[u8],
+    out: &mut [u8],
+    at: usize,
+) -> usize
+    requires { ⌜ (length (now tickets) ≤ places-held) × (length (now grades) ≡ length (now tickets)) × (at + answer-room ≤ length (now out)) ⌝ }
+    ensures { λ r.
+        let lines = printed-answer number (answer-of answer (now (tickets .entry)) (now (grades .entry))) in
+        ⌜ PutWithin answer-room lines (now (out .entry)) at r (now (out .exit)) ⌝ }
+{
+    match answer {
+        Answer::Refused(n) => print_at(out, at, b'R', &[number, n as u64]),
+        Answer::Opened(depth) => print_at(out, at, b'D', &[depth as u64]),
+        Answer::Admitted(ticket, last) => print_at(out, at, b'A', &[ticket as u64, last.0 as u64]),
+        Answer::Closed(slot, ticket, grade) => print_closing(
+            slot,
+            ticket,
+            grade,
+            tickets,
+            grades,
+            out,
+            at,
+        ),
+    }
+}
+
+// Prints the answer to the line of this number at `at`; where it ends. Where it may not be printed nothing is, and that is `at`.
+pub fn print_answer(
+    number: u64,
+    answer: Answer,
+    tickets: &[u32],
+    grades: &[u8],
+    out: &mut [u8],
+    at: usize,
+) -> usize
+    ensures { λ r.
+        let T = now (tickets .entry) in
+        let G = now (grades .entry) in
+        let fits = answer-fits (length T) (length G) at (length (now (out .entry))) in
+        ⌜ PutIf fits answer-room (printed-answer number (answer-of answer T G)) (now (out .entry)) at r (now (out .exit)) ⌝ }
+{
+    if !answer_fits(tickets.len(), grades.len(), at, out.len()) {
+        return at;
+    }
+    print_fitting(number, answer, tickets, grades, out, at)
+}
+
+// A count of the tally.
+fn count_of(t: Tally, kind: u32, grade: usize) -> u64
+    requires { ⌜ (kind < tally-kinds) × (grade < tally-grades) ⌝ }
+    ensures { λ r. ⌜ r ≡ count-at t kind grade ⌝ }
+{
+    let at = kind as usize * Tally::GRADES + grade;
+    let n = t.counts[at];
+    n as u64
+}
+
+// Prints a line of the tally for each of so many grades, where there is room; where the last one ends.
+fn print_grades(t: Tally, grades: usize, out: &mut [u8], at: usize) -> usize
+    requires { ⌜ (grades ≤ tally-grades) × (at + tally-room ≤ length (now out)) ⌝ }
+    ensures { λ r. ⌜ PutWithin tally-room (printed-tally grades 0 t) (now (out .entry)) at r (now (out .exit)) ⌝ }
+{
+    let mut end = at;
+    let mut g: usize = 0;
+    while g < grades {
+        let admitted = count_of(t, Tally::ADMITTED, g);
+        let baked = count_of(t, Tally::BAKED, g);
+        let given_up = count_of(t, Tally::GIVEN_UP, g);
+        end = print_at(out, end, b'T', &[g as u64, admitted, baked, given_up]);
+        g += 1;
+    }
+    end
+}
+
+// Prints the tally at `at`, a line for each of so many grades; where it ends. Of more grades than the tally has, or where the buffer has no room for
+// as many as it has, nothing is printed.
+pub fn print_tally(t: Tally, grades: usize, out: &mut [u8], at: usize) -> usize
+    ensures { λ r.
+        let fits = tally-fits grades at (length (now (out .entry))) in
+        ⌜ PutIf fits tally-room (printed-tally grades 0 t) (now (out .entry)) at r (now (out .exit)) ⌝ }
+{
+    if Tally::GRADES < grades {
+        return at;
+    }
+    if !room_for(TALLY_ROOM, at, out.len()) {
+        return at;
+    }
+    print_grades(t, grades, out, at)
+}

@@ -1,0 +1,41 @@
+-- A line cut from a chunk of bytes.
+use mathlib.Core.Path.{_≡_}
+use mathlib.Core.Bool.{true, not, cond}
+use mathlib.Core.List.{[], _∷_}
+use Prim.Native.Nat.{ℕ, suc, _≤_, _<_}
+use lib.Dec.{eqb, ltb}
+use lib.ListN.{length, take, drop, getD}
+use Rattle.lists.specs.Select.{every}
+use Rattle.lines.specs.Bytes.{Bytes, line-end}
+use Rattle.lines.specs.Machine.{hold, most-held}
+use Rattle.cutting.specs.declared.Held.{Held}
+use Rattle.cutting.specs.declared.Cut.{Cut}
+
+-- the bytes of the line so far
+unfoldable pub held-bytes : Held → Bytes
+held-bytes h = take (h .len) (h .bytes)
+
+-- bytes of a line held one after the other
+unfoldable pub hold-all : Bytes → Bytes → Bytes
+hold-all l [] = l
+hold-all l (b ∷ bs) = hold-all (hold b l) bs
+
+-- the bytes of the chunk from `from` up to `to`
+unfoldable pub part : Bytes → (from to : ℕ) → Bytes
+part chunk from to = drop from (take to chunk)
+
+-- the line that goes on at `from` ends at `to`: at the next byte 10, or else at the chunk's end
+pub record LineEnds (chunk : Bytes) (from to : ℕ) : Type 0 where
+  pub forward : from ≤ to
+  pub inside : to ≤ length chunk
+  pub one-line : every (λ b. not (eqb b line-end)) (part chunk from to) ≡ true
+  pub ended : to < length chunk → getD chunk to 0 ≡ line-end
+
+-- a line cut from the chunk's bytes from `from` on: where it ends, its bytes as far as they are held, whether a line end was met, which is then used
+pub record CutFrom (h : Held) (chunk : Bytes) (from : ℕ) (r : Cut) : Type 0 where
+  pub to : ℕ
+  pub ends : LineEnds chunk from to
+  pub line : held-bytes (r .held) ≡ hold-all (held-bytes h) (part chunk from to)
+  pub few : r .held .len ≤ most-held
+  pub ended : r .ended ≡ ltb to (length chunk)
+  pub used : r .used ≡ cond (r .ended) (suc to) to

@@ -1,0 +1,91 @@
+// Bytes cut into lines of any length, of which so many bytes are held that one too long is known.
+ghost use mathlib.Core.Path.{_≡_};
+ghost use Prim.Native.Nat.{_≤_, min};
+ghost use lib.ListN.{length, replicate};
+ghost use Rattle.lines.specs.Machine.{most-held};
+ghost use Rattle.cutting.specs.Cut.{held-bytes, part, hold-all, LineEnds, CutFrom};
+
+// The bytes of a line so far, as many as there is room for: the first `len`.
+pub struct Held {
+    pub bytes: [u8; Held::ROOM],
+    pub len: usize,
+}
+
+impl Held {
+    // One more than a line may have.
+    pub const ROOM: usize = reading::LONGEST_LINE + 1;
+}
+
+// A line cut from a chunk: its bytes so far, how far the chunk is used, and whether the line has ended.
+pub struct Cut {
+    pub held: Held,
+    pub used: usize,
+    pub ended: bool,
+}
+
+// No byte of a line.
+pub fn none_held() -> Held
+    ensures { λ r. ⌜ r ≡ record { bytes = replicate most-held 0; len = 0 } ⌝ }
+{
+    Held {
+        bytes: [0; Held::ROOM],
+        len: 0,
+    }
+}
+
+// Where the line that goes on at `from` ends: the place of the next byte 10, or the chunk's length.
+fn line_end(chunk: &[u8], from: usize) -> usize
+    requires { ⌜ from ≤ length (now chunk) ⌝ }
+    ensures { λ r. ⌜ LineEnds (now (chunk .entry)) from r ⌝ }
+{
+    let mut i = from;
+    while i < chunk.len() {
+        if chunk[i] == b'\n' {
+            return i;
+        }
+        i += 1;
+    }
+    i
+}
+
+// The line with the chunk's bytes from `from` up to `to` as well, as far as there is room.
+fn hold_part(h: Held, chunk: &[u8], from: usize, to: usize) -> Held
+    requires { ⌜ (h .len ≤ most-held) × (from ≤ to) × (to ≤ length (now chunk)) ⌝ }
+    ensures { λ r. ⌜ (r .len ≤ most-held) × (held-bytes r ≡ hold-all (held-bytes h) (part (now (chunk .entry)) from to)) ⌝ }
+{
+    let mut held = h;
+    let mut i = from;
+    while i < to {
+        let at = held.len;
+        if at < Held::ROOM {
+            held.bytes[at] = chunk[i];
+            held.len = at + 1;
+        }
+        i += 1;
+    }
+    held
+}
+
+// Cuts a line from the chunk's bytes from `from` on: those before the next byte 10 are held too. Past the chunk's end there is no byte.
+pub fn cut_line(h: Held, chunk: &[u8], from: usize) -> Cut
+    ensures { λ r. ⌜ CutFrom h (now (chunk .entry)) (min from (length (now (chunk .entry)))) r ⌝ }
+{
+    let start = lists::lesser(from, chunk.len());
+    let end = line_end(chunk, start);
+    let mut begun = h;
+    begun.len = lists::lesser(h.len, Held::ROOM);
+    let held = hold_part(begun, chunk, start, end);
+    if end < chunk.len() {
+        let used = end + 1;
+        return Cut {
+            held,
+            used,
+            ended: true,
+        };
+    }
+    Cut {
+        held,
+        used: end,
+        ended: false,
+    }
+}

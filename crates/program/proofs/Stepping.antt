@@ -1,0 +1,4 @@
+pub mod Steps
+pub mod Entries
+pub mod Closings
+pub mod Requests
