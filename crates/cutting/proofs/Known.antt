@@ -12,13 +12,13 @@ use denote.Struct.Declared.{row}
 use Rattle.lists.proofs.Tests.{cmp}
 use Rattle.lines.specs.Bytes.{Bytes}
 use Rattle.lines.specs.Reading.{longest-line}
-use Rattle.lines.specs.Machine.{most-held}
-use Rattle.cutting.specs.declared.Held.{Held}
-use Rattle.cutting.proofs.Held.{the-type}
+use Rattle.lines.specs.Machine.{partial-room}
+use Rattle.cutting.specs.declared.Partial.{Partial}
+use Rattle.cutting.proofs.Partial.{the-type}
 
-pub held-room : (h : Held) (vs : List Val) → Is (row the-type) h vs → length (h .bytes) ≡ most-held
-unfolding most-held longest-line
-held-room h vs g = sym (length-map (h .bytes) _) ∙ g .1 .1 .0 .1 .0 .1
+pub partial-length : (h : Partial) (vs : List Val) → Is (row the-type) h vs → length (h .bytes) ≡ partial-room
+unfolding partial-room longest-line
+partial-length h vs g = sym (length-map (h .bytes) _) ∙ g .1 .1 .0 .1 .0 .1
 
 -- no more are taken than there are
 pub take-lesser : (n : ℕ) (l : Bytes) (m : ℕ) → length l ≡ m → take (min n m) l ≡ take n l

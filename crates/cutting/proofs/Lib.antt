@@ -1,3 +1,3 @@
 pub mod Parts
 pub mod Known
-pub mod Holding
+pub mod Extending

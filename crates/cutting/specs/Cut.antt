@@ -7,18 +7,18 @@ use lib.Dec.{eqb, ltb}
 use lib.ListN.{length, take, drop, getD}
 use Rattle.lists.specs.Select.{every}
 use Rattle.lines.specs.Bytes.{Bytes, line-end}
-use Rattle.lines.specs.Machine.{hold, most-held}
-use Rattle.cutting.specs.declared.Held.{Held}
+use Rattle.lines.specs.Machine.{extend, partial-room}
+use Rattle.cutting.specs.declared.Partial.{Partial}
 use Rattle.cutting.specs.declared.Cut.{Cut}
 
 -- the bytes of the line so far
-unfoldable pub held-bytes : Held → Bytes
-held-bytes h = take (h .len) (h .bytes)
+unfoldable pub partial-bytes : Partial → Bytes
+partial-bytes h = take (h .len) (h .bytes)
 
--- bytes of a line held one after the other
-unfoldable pub hold-all : Bytes → Bytes → Bytes
-hold-all l [] = l
-hold-all l (b ∷ bs) = hold-all (hold b l) bs
+-- the line so far with bytes added one after the other
+unfoldable pub extend-all : Bytes → Bytes → Bytes
+extend-all l [] = l
+extend-all l (b ∷ bs) = extend-all (extend b l) bs
 
 -- the bytes of the chunk from `from` up to `to`
 unfoldable pub part : Bytes → (from to : ℕ) → Bytes
@@ -31,11 +31,11 @@ pub record LineEnds (chunk : Bytes) (from to : ℕ) : Type 0 where
   pub one-line : every (λ b. not (eqb b line-end)) (part chunk from to) ≡ true
   pub ended : to < length chunk → getD chunk to 0 ≡ line-end
 
--- a line cut from the chunk's bytes from `from` on: where it ends, its bytes as far as they are held, whether a line end was met, which is then used
-pub record CutFrom (h : Held) (chunk : Bytes) (from : ℕ) (r : Cut) : Type 0 where
+-- a line cut from the chunk's bytes from `from` on: where it ends, its bytes as far as they are kept, whether a line end was met, which is then used
+pub record CutFrom (h : Partial) (chunk : Bytes) (from : ℕ) (r : Cut) : Type 0 where
   pub to : ℕ
   pub ends : LineEnds chunk from to
-  pub line : held-bytes (r .held) ≡ hold-all (held-bytes h) (part chunk from to)
-  pub few : r .held .len ≤ most-held
+  pub line : partial-bytes (r .partial) ≡ extend-all (partial-bytes h) (part chunk from to)
+  pub few : r .partial .len ≤ partial-room
   pub ended : r .ended ≡ ltb to (length chunk)
   pub used : r .used ≡ cond (r .ended) (suc to) to

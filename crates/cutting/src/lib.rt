@@ -1,34 +1,34 @@
-// Bytes cut into lines of any length, of which so many bytes are held that one too long is known.
+// Bytes cut into lines of any length, of which so many bytes are kept that one too long is known.
 ghost use mathlib.Core.Path.{_≡_};
 ghost use Prim.Native.Nat.{_≤_, min};
 ghost use lib.ListN.{length, replicate};
-ghost use Rattle.lines.specs.Machine.{most-held};
-ghost use Rattle.cutting.specs.Cut.{held-bytes, part, hold-all, LineEnds, CutFrom};
+ghost use Rattle.lines.specs.Machine.{partial-room};
+ghost use Rattle.cutting.specs.Cut.{partial-bytes, part, extend-all, LineEnds, CutFrom};
 
 // The bytes of a line so far, as many as there is room for: the first `len`.
-pub struct Held {
-    pub bytes: [u8; Held::ROOM],
+pub struct Partial {
+    pub bytes: [u8; Partial::ROOM],
     pub len: usize,
 }
 
-impl Held {
+impl Partial {
     // One more than a line may have.
     pub const ROOM: usize = reading::LONGEST_LINE + 1;
 }
 
 // A line cut from a chunk: its bytes so far, how far the chunk is used, and whether the line has ended.
 pub struct Cut {
-    pub held: Held,
+    pub partial: Partial,
     pub used: usize,
     pub ended: bool,
 }
 
 // No byte of a line.
-pub fn none_held() -> Held
-    ensures { λ r. ⌜ r ≡ record { bytes = replicate most-held 0; len = 0 } ⌝ }
+pub fn no_bytes() -> Partial
+    ensures { λ r. ⌜ r ≡ record { bytes = replicate partial-room 0; len = 0 } ⌝ }
 {
-    Held {
-        bytes: [0; Held::ROOM],
+    Partial {
+        bytes: [0; Partial::ROOM],
         len: 0,
     }
 }
@@ -49,42 +49,42 @@ fn line_end(chunk: &[u8], from: usize) -> usize
 }
 
 // The line with the chunk's bytes from `from` up to `to` as well, as far as there is room.
-fn hold_part(h: Held, chunk: &[u8], from: usize, to: usize) -> Held
-    requires { ⌜ (h .len ≤ most-held) × (from ≤ to) × (to ≤ length (now chunk)) ⌝ }
-    ensures { λ r. ⌜ (r .len ≤ most-held) × (held-bytes r ≡ hold-all (held-bytes h) (part (now (chunk .entry)) from to)) ⌝ }
+fn extend_part(h: Partial, chunk: &[u8], from: usize, to: usize) -> Partial
+    requires { ⌜ (h .len ≤ partial-room) × (from ≤ to) × (to ≤ length (now chunk)) ⌝ }
+    ensures { λ r. ⌜ (r .len ≤ partial-room) × (partial-bytes r ≡ extend-all (partial-bytes h) (part (now (chunk .entry)) from to)) ⌝ }
 {
-    let mut held = h;
+    let mut partial = h;
     let mut i = from;
     while i < to {
-        let at = held.len;
-        if at < Held::ROOM {
-            held.bytes[at] = chunk[i];
-            held.len = at + 1;
+        let at = partial.len;
+        if at < Partial::ROOM {
+            partial.bytes[at] = chunk[i];
+            partial.len = at + 1;
         }
         i += 1;
     }
-    held
+    partial
 }
 
-// Cuts a line from the chunk's bytes from `from` on: those before the next byte 10 are held too. Past the chunk's end there is no byte.
-pub fn cut_line(h: Held, chunk: &[u8], from: usize) -> Cut
+// Cuts a line from the chunk's bytes from `from` on: those before the next byte 10 are added. Past the chunk's end there is no byte.
+pub fn cut_line(h: Partial, chunk: &[u8], from: usize) -> Cut
     ensures { λ r. ⌜ CutFrom h (now (chunk .entry)) (min from (length (now (chunk .entry)))) r ⌝ }
 {
     let start = lists::lesser(from, chunk.len());
     let end = line_end(chunk, start);
     let mut begun = h;
-    begun.len = lists::lesser(h.len, Held::ROOM);
-    let held = hold_part(begun, chunk, start, end);
+    begun.len = lists::lesser(h.len, Partial::ROOM);
+    let partial = extend_part(begun, chunk, start, end);
     if end < chunk.len() {
         let used = end + 1;
         return Cut {
-            held,
+            partial,
             used,
             ended: true,
         };
     }
     Cut {
-        held,
+        partial,
         used: end,
         ended: false,
     }

@@ -14,9 +14,9 @@ use Rattle.lists.proofs.Members.{every-append}
 use Rattle.lines.specs.Bytes.{Bytes, line-end, lines}
 use Rattle.lines.specs.Session.{Session, new-session, Answer, Run, step, run-from, run}
 use Rattle.lines.specs.Output.{printed-answers, at-end, output}
-use Rattle.lines.specs.Machine.{Machine, new-machine, hold, most-held, answered-by, after-byte, after-bytes, answers-along, last-answers, last-session, printed-along, printed-at-end, ByteByByte}
+use Rattle.lines.specs.Machine.{Machine, new-machine, extend, partial-room, answered-by, after-byte, after-bytes, answers-along, last-answers, last-session, printed-along, printed-at-end, ByteByByte}
 use Rattle.lines.proofs.Cutting.{one-line, lines-ended, lines-last, lines-none}
-use Rattle.lines.proofs.LongLines.{step-first, hold-first}
+use Rattle.lines.proofs.LongLines.{step-first, extend-first}
 use Rattle.lines.proofs.Answers.{number-after, printed-joined}
 
 -- answers, and a run behind them
@@ -29,23 +29,23 @@ ended m = record { answers = last-answers m; session = last-session m }
 
 -- reading a line of which the bytes l are there
 abbrev reading : Session → ℕ → Bytes → Machine
-reading s i l = record { session = s; number = i; held = take most-held l }
+reading s i l = record { session = s; number = i; partial = take partial-room l }
 
 at-last : (s : Session) (i : ℕ) (l : Bytes) → one-line l ≡ true → run-from s (lines l) ≡ ended (reading s i l)
-unfolding run-from last-answers last-session most-held
+unfolding run-from last-answers last-session partial-room
 at-last s i [] h = ap (run-from s) lines-none
 at-last s i (c ∷ l) h =
-    let held = take most-held (c ∷ l) in
-    let begun = ne-eqb (length held) 0 (λ z. omega arith) in
+    let partial = take partial-room (c ∷ l) in
+    let begun = ne-eqb (length partial) 0 (λ z. omega arith) in
     ap (run-from s) (lines-last c l h)
     ∙ sym (ap (λ a. record { answers = a .answer ∷ []; session = a .session }) (step-first s (c ∷ l)))
     ∙ sym (ap₂ (λ (x : List Answer) (t : Session). record { answers = x; session = t })
-    (cond-false (eqb (length held) 0) [] (step s held .answer ∷ []) begun)
-    (cond-false (eqb (length held) 0) s (step s held .session) begun))
+    (cond-false (eqb (length partial) 0) [] (step s partial .answer ∷ []) begun)
+    (cond-false (eqb (length partial) 0) s (step s partial .session) begun))
 
 along : (s : Session) (i : ℕ) (l bs : Bytes) → one-line l ≡ true
     → run-from s (lines (l ++ bs)) ≡ onto (answers-along (reading s i l) bs) (ended (after-bytes (reading s i l) bs))
-unfolding answers-along after-bytes answered-by after-byte run-from every most-held
+unfolding answers-along after-bytes answered-by after-byte run-from every partial-room
 along s i l [] h = ap (λ (x : Bytes). run-from s (lines x)) (append-nil l) ∙ at-last s i l h
 along s i l (b ∷ bs) h = go (test (eqb b line-end)) (λ s i l h. along s i l bs h)
   where
@@ -63,26 +63,26 @@ along s i l (b ∷ bs) h = go (test (eqb b line-end)) (λ s i l h. along s i l b
         let n = reading (a .session) (suc i) [] in
         let here = step-first s l in
         let next : after-byte m b ≡ n =
-        cond-true (eqb b line-end) (record { session = step s (take most-held l) .session; number = suc i; held = [] }) (record { session = s; number = i; held = hold b (take most-held l) }) e
+        cond-true (eqb b line-end) (record { session = step s (take partial-room l) .session; number = suc i; partial = [] }) (record { session = s; number = i; partial = extend b (take partial-room l) }) e
         ∙ ap (λ x. reading (x .session) (suc i) []) here
         in
-        let said : answered-by m b ≡ a .answer ∷ [] = cond-true (eqb b line-end) (step s (take most-held l) .answer ∷ []) [] e ∙ ap (λ x. x .answer ∷ []) here in
+        let said : answered-by m b ≡ a .answer ∷ [] = cond-true (eqb b line-end) (step s (take partial-room l) .answer ∷ []) [] e ∙ ap (λ x. x .answer ∷ []) here in
         ap (run-from s) (lines-ended l bs b h e)
         ∙ ap (onto (a .answer ∷ [])) (ih (a .session) (suc i) [] refl)
         ∙ ap₂ (λ (x : List Answer) (k : Machine). onto (x ++ answers-along k bs) (ended (after-bytes k bs))) (sym said) (sym next)
     go (inr e) ih =
         let n = reading s i (l ++ (b ∷ [])) in
         let next : after-byte m b ≡ n =
-        cond-false (eqb b line-end) (record { session = step s (take most-held l) .session; number = suc i; held = [] }) (record { session = s; number = i; held = hold b (take most-held l) }) e
-        ∙ ap (λ (x : Bytes). record { session = s; number = i; held = x }) (hold-first b l)
+        cond-false (eqb b line-end) (record { session = step s (take partial-room l) .session; number = suc i; partial = [] }) (record { session = s; number = i; partial = extend b (take partial-room l) }) e
+        ∙ ap (λ (x : Bytes). record { session = s; number = i; partial = x }) (extend-first b l)
         in
-        let said : answered-by m b ≡ [] = cond-false (eqb b line-end) (step s (take most-held l) .answer ∷ []) [] e in
+        let said : answered-by m b ≡ [] = cond-false (eqb b line-end) (step s (take partial-room l) .answer ∷ []) [] e in
         ap (λ (x : Bytes). run-from s (lines x)) (sym (append-assoc l (b ∷ []) bs))
         ∙ ih s i (l ++ (b ∷ [])) (every-append (λ c. not (eqb c line-end)) l (b ∷ []) h (ap (λ c. not c && true) e))
         ∙ ap₂ (λ (x : List Answer) (k : Machine). onto (x ++ answers-along k bs) (ended (after-bytes k bs))) (sym said) (sym next)
 
 pub byte-by-byte : ByteByByte
-unfolding ByteByByte new-machine run output most-held printed-along printed-at-end
+unfolding ByteByByte new-machine run output partial-room printed-along printed-at-end
 byte-by-byte input =
     let m = after-bytes new-machine input in
     let first = answers-along new-machine input in

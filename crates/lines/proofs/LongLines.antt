@@ -1,4 +1,4 @@
--- Of a line the bytes that are held decide: a longer one gets number 11 whatever else it holds.
+-- Of a line the bytes that are kept decide: a longer one gets number 11 whatever else it holds.
 use mathlib.Core.Path.{_≡_, sym, ap, _∙_}
 use mathlib.Core.Bool.{Bool}
 use mathlib.Core.Logic.{_⊎_, inl, inr}
@@ -13,7 +13,7 @@ use Rattle.lists.proofs.Tests.{cmp, cond-true}
 use Rattle.lines.specs.Bytes.{Bytes}
 use Rattle.lines.specs.Reading.{longest-line, too-long, line-rows, line-number}
 use Rattle.lines.specs.Session.{Session, is-open, step, step-if}
-use Rattle.lines.specs.Machine.{hold, most-held}
+use Rattle.lines.specs.Machine.{extend, partial-room}
 
 pub eleven : (opened : Bool) (l : Bytes) → longest-line < length l → line-number opened l ≡ 11
 unfolding line-number line-rows too-long first-given _if_
@@ -23,34 +23,34 @@ refused-long : (s : Session) (l : Bytes) → longest-line < length l → step s 
 unfolding step step-if
 refused-long s l h = ap (λ n. step-if n s l) (eleven (is-open (s .board)) l h)
 
-pub step-first : (s : Session) (l : Bytes) → step s (take most-held l) ≡ step s l
-unfolding most-held
-step-first s l = go (cmp (length l) most-held)
+pub step-first : (s : Session) (l : Bytes) → step s (take partial-room l) ≡ step s l
+unfolding partial-room
+step-first s l = go (cmp (length l) partial-room)
   where
-    go : (length l ≤ most-held) ⊎ (most-held < length l) → step s (take most-held l) ≡ step s l
-    go (inl h) = ap (step s) (take-all most-held l h)
-    go (inr h) = refused-long s (take most-held l) (omega (arith, length-take most-held l)) ∙ sym (refused-long s l (omega arith))
+    go : (length l ≤ partial-room) ⊎ (partial-room < length l) → step s (take partial-room l) ≡ step s l
+    go (inl h) = ap (step s) (take-all partial-room l h)
+    go (inr h) = refused-long s (take partial-room l) (omega (arith, length-take partial-room l)) ∙ sym (refused-long s l (omega arith))
 
 -- a line takes a further byte up to the first that makes it too long
-pub hold-room : (b : ℕ) (l : Bytes) → length l ≤ longest-line → hold b l ≡ l ++ (b ∷ [])
-unfolding hold too-long
-hold-room b l h = simp le-ltb
+pub extend-room : (b : ℕ) (l : Bytes) → length l ≤ longest-line → extend b l ≡ l ++ (b ∷ [])
+unfolding extend too-long
+extend-room b l h = simp le-ltb
 
-pub hold-full : (b : ℕ) (l : Bytes) → longest-line < length l → hold b l ≡ l
-unfolding hold too-long
-hold-full b l h = simp lt-ltb
+pub extend-full : (b : ℕ) (l : Bytes) → longest-line < length l → extend b l ≡ l
+unfolding extend too-long
+extend-full b l h = simp lt-ltb
 
--- holding a byte keeps the first that are held
-pub hold-first : (b : ℕ) (l : Bytes) → hold b (take most-held l) ≡ take most-held (l ++ (b ∷ []))
-unfolding most-held
-hold-first b l = go (cmp most-held (length l))
+-- with a byte more the first ones are kept
+pub extend-first : (b : ℕ) (l : Bytes) → extend b (take partial-room l) ≡ take partial-room (l ++ (b ∷ []))
+unfolding partial-room
+extend-first b l = go (cmp partial-room (length l))
   where
-    held : Bytes
-    held = take most-held l
+    partial : Bytes
+    partial = take partial-room l
 
-    go : (most-held ≤ length l) ⊎ (length l < most-held) → hold b held ≡ take most-held (l ++ (b ∷ []))
-    go (inl h) = hold-full b held (omega (arith, length-take most-held l)) ∙ sym (take-append-le most-held l (b ∷ []) h)
+    go : (partial-room ≤ length l) ⊎ (length l < partial-room) → extend b partial ≡ take partial-room (l ++ (b ∷ []))
+    go (inl h) = extend-full b partial (omega (arith, length-take partial-room l)) ∙ sym (take-append-le partial-room l (b ∷ []) h)
     go (inr h) =
-        hold-room b held (omega (arith, length-take most-held l))
-        ∙ ap (λ (x : Bytes). x ++ (b ∷ [])) (take-all most-held l (omega arith))
-        ∙ sym (take-all most-held (l ++ (b ∷ [])) (let z = length-append l (b ∷ []) in omega arith))
+        extend-room b partial (omega (arith, length-take partial-room l))
+        ∙ ap (λ (x : Bytes). x ++ (b ∷ [])) (take-all partial-room l (omega arith))
+        ∙ sym (take-all partial-room (l ++ (b ∷ [])) (let z = length-append l (b ∷ []) in omega arith))

@@ -1,4 +1,4 @@
--- A run byte by byte: what is held between two bytes, and which answers each byte brings. Of a line that is too long no further byte is held: it is
+-- A run byte by byte: what stands between two bytes, and which answers each byte brings. Of a line that is too long no further byte is kept: it is
 -- refused whatever it holds.
 use mathlib.Core.Path.{_≡_}
 use mathlib.Core.Bool.{cond}
@@ -15,28 +15,28 @@ use Rattle.lines.specs.Output.{printed-answers, at-end, output}
 pub record Machine : Type 0 where
   pub session : Session
   pub number : ℕ
-  pub held : Bytes
+  pub partial : Bytes
 
 unfoldable pub new-machine : Machine
-new-machine = record { session = new-session; number = 1; held = [] }
+new-machine = record { session = new-session; number = 1; partial = [] }
 
--- a byte of a line
-unfoldable pub hold : ℕ → Bytes → Bytes
-hold b l = cond (too-long l) l (l ++ (b ∷ []))
+-- the line so far with a byte more
+unfoldable pub extend : ℕ → Bytes → Bytes
+extend b l = cond (too-long l) l (l ++ (b ∷ []))
 
--- so many bytes of a line are held at the most
-unfoldable pub most-held : ℕ
-most-held = suc longest-line
+-- so many bytes of a line are kept at the most
+unfoldable pub partial-room : ℕ
+partial-room = suc longest-line
 
 -- a byte ends a line, which is answered, or none
 unfoldable pub answered-by : Machine → ℕ → List Answer
-answered-by m b = cond (eqb b line-end) (step (m .session) (m .held) .answer ∷ []) []
+answered-by m b = cond (eqb b line-end) (step (m .session) (m .partial) .answer ∷ []) []
 
 unfoldable pub after-byte : Machine → ℕ → Machine
 after-byte m b =
     cond (eqb b line-end)
-    (record { session = step (m .session) (m .held) .session; number = suc (m .number); held = [] })
-    (record { session = m .session; number = m .number; held = hold b (m .held) })
+    (record { session = step (m .session) (m .partial) .session; number = suc (m .number); partial = [] })
+    (record { session = m .session; number = m .number; partial = extend b (m .partial) })
 
 -- bytes one after the other
 unfoldable pub after-bytes : Machine → Bytes → Machine
@@ -49,10 +49,10 @@ answers-along m (b ∷ bs) = answered-by m b ++ answers-along (after-byte m b) b
 
 -- the end of input ends a line that has begun
 unfoldable pub last-answers : Machine → List Answer
-last-answers m = cond (eqb (length (m .held)) 0) [] (step (m .session) (m .held) .answer ∷ [])
+last-answers m = cond (eqb (length (m .partial)) 0) [] (step (m .session) (m .partial) .answer ∷ [])
 
 unfoldable pub last-session : Machine → Session
-last-session m = cond (eqb (length (m .held)) 0) (m .session) (step (m .session) (m .held) .session)
+last-session m = cond (eqb (length (m .partial)) 0) (m .session) (step (m .session) (m .partial) .session)
 
 -- what the program prints along bytes, and at the end of input
 unfoldable pub printed-along : Machine → Bytes → Bytes

@@ -6,7 +6,7 @@ use Prim.Native.Nat.{ℕ, _+_, _*_, _^_, _≤_, _<_}
 use lib.ListN.{length}
 use Rattle.lines.specs.Bytes.{Bytes}
 use Rattle.lines.specs.Output.{output}
-use Rattle.lines.specs.Machine.{most-held, new-machine, after-bytes, printed-along}
+use Rattle.lines.specs.Machine.{partial-room, new-machine, after-bytes, printed-along}
 use Rattle.answers.specs.Printed.{answer-room}
 use Rattle.program.specs.declared.feed.State.{State}
 use Rattle.program.specs.declared.run.Ended.{Ended}
@@ -27,7 +27,7 @@ buffer-length = 65_536
 -- A chunk taken in. All that it prints was written, or else a part.
 pub record ChunkTaken (state : State) (chunk : Bytes) (r : Taken) : Type 0 where
   pub good : GoodDay (r .state .day)
-  pub held : r .state .held .len ≤ most-held
+  pub partial : r .state .partial .len ≤ partial-room
   pub number : r .state .number ≤ state .number + length chunk
   pub few : r .written ≤ answer-room * length chunk
   pub machine : r .whole ≡ true → machine-of (r .state) ≡ after-bytes (machine-of state) chunk

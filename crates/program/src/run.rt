@@ -2,7 +2,7 @@
 ghost use mathlib.Core.Path.{_≡_};
 ghost use Prim.Native.Nat.{_+_, _≤_, _<_, _^_};
 ghost use lib.ListN.{length};
-ghost use Rattle.lines.specs.Machine.{most-held};
+ghost use Rattle.lines.specs.Machine.{partial-room};
 ghost use Rattle.program.specs.Inner.Days.{GoodDay};
 ghost use Rattle.program.specs.Runs.{buffer-length, ChunkTaken, Stopped, Ran};
 ghost use Rattle.program.specs.declared.run.Ended.the-variants.{WriteFailed, TooLong};
@@ -43,7 +43,7 @@ pub struct Taken {
 // Takes in a whole chunk, and writes what it prints whenever the buffer has no room for a line more, and at its end.
 fn take_in(d: State, chunk: &[u8], out: &mut [u8]) -> Taken
     requires { ⌜ GoodDay (d .day) ⌝ }
-    requires { ⌜ (d .held .len ≤ most-held) × (d .number + length (now chunk) < 2 ^ 63) ⌝ }
+    requires { ⌜ (d .partial .len ≤ partial-room) × (d .number + length (now chunk) < 2 ^ 63) ⌝ }
     requires { ⌜ (length (now chunk) ≤ buffer-length) × (length (now out) ≡ buffer-length) ⌝ }
     ensures { λ r. ⌜ ChunkTaken d (now (chunk .entry)) r ⌝ }
 {
@@ -102,7 +102,7 @@ fn too_long(read: u64, written: u64) -> Outcome
 // The end of input: writes what is left to print.
 fn finish(state: State, out: &mut [u8], read: u64, written: u64) -> Outcome
     requires { ⌜ GoodDay (state .day) ⌝ }
-    requires { ⌜ (state .held .len ≤ most-held) × (length (now out) ≡ buffer-length) × (written + buffer-length < 2 ^ 64) ⌝ }
+    requires { ⌜ (state .partial .len ≤ partial-room) × (length (now out) ≡ buffer-length) × (written + buffer-length < 2 ^ 64) ⌝ }
     ensures { λ r. ⌜ Stopped state read written r ⌝ }
 {
     let end = feed::finish(state, out, 0);
@@ -121,7 +121,7 @@ fn finish(state: State, out: &mut [u8], read: u64, written: u64) -> Outcome
 // A read gave no bytes: it is the end of input, or it has failed, which is said, and then neither the line that has begun nor the tally is printed.
 fn stop(got: Got, state: State, out: &mut [u8], read: u64, written: u64) -> Outcome
     requires { ⌜ GoodDay (state .day) ⌝ }
-    requires { ⌜ (state .held .len ≤ most-held) × (length (now out) ≡ buffer-length) × (written + buffer-length < 2 ^ 64) ⌝ }
+    requires { ⌜ (state .partial .len ≤ partial-room) × (length (now out) ≡ buffer-length) × (written + buffer-length < 2 ^ 64) ⌝ }
     ensures { λ r. ⌜ Stopped state read written r ⌝ }
 {
     let Got::End = got else {

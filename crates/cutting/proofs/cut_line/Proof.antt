@@ -1,4 +1,4 @@
--- `cutting::cut_line`: the line's bytes are held up to its end. Assumes nothing.
+-- `cutting::cut_line`: the line's bytes are added up to its end. Assumes nothing.
 use mathlib.Core.Path.{_≡_, refl, sym, subst, ap, _∙_}
 use Prim.Native.Nat.{ℕ, min}
 use native.Mathlib.Numerals.{add-one}
@@ -8,9 +8,9 @@ use borrow.Author.Tests.{lt-ltb, le-ltb}
 use lib.ListN.{length, take}
 use Rattle.lines.specs.Bytes.{Bytes}
 use Rattle.lines.specs.Reading.{longest-line}
-use Rattle.lines.specs.Machine.{most-held}
-use Rattle.cutting.specs.Cut.{held-bytes, part, hold-all, LineEnds}
-use Rattle.cutting.proofs.Known.{held-room, take-lesser}
+use Rattle.lines.specs.Machine.{partial-room}
+use Rattle.cutting.specs.Cut.{partial-bytes, part, extend-all, LineEnds}
+use Rattle.cutting.proofs.Known.{partial-length, take-lesser}
 use Rattle.cutting.proofs.cut_line.Statement.{statement}
 use Rattle.cutting.proofs.cut_line.Tie as tie
 
@@ -30,29 +30,29 @@ ends c =
     let a = c .before .before .before .args in
     subst (λ (n : ℕ). LineEnds (a .chunk .now) n (c .line-end .result)) (c .before .lesser .ensures) (c .line-end .ensures)
 
-hold-part-requires : tie.Need-hold-part-requires
-unfolding most-held longest-line
-hold-part-requires c κs =
+extend-part-requires : tie.Need-extend-part-requires
+unfolding partial-room longest-line
+extend-part-requires c κs =
     let e = c .before .line-end .ensures in
     (omega (arith, c .lesser2 .ensures), e .forward, e .inside)
 
--- the bytes that were held before are all kept
-line : (c : tie.After-hold-part) →
+-- the bytes that were there before are all kept
+line : (c : tie.After-extend-part) →
     let e = c .before .before in
     let a = e .before .before .before .args in
-    held-bytes (c .hold-part .result) ≡ hold-all (held-bytes (a .h)) (part (a .chunk .now) (min (a .from) (length (a .chunk .now))) (e .line-end .result))
-unfolding held-bytes most-held longest-line
+    partial-bytes (c .extend-part .result) ≡ extend-all (partial-bytes (a .h)) (part (a .chunk .now) (min (a .from) (length (a .chunk .now))) (e .line-end .result))
+unfolding partial-bytes partial-room longest-line
 line c =
     let l = c .before .lesser2 in
     let e = c .before .before in
     let s = e .before .before .before in
     let a = s .args in
     let kept : take (l .result) (a .h .bytes) ≡ take (a .h .len) (a .h .bytes) =
-    ap (λ (n : ℕ). take n (a .h .bytes)) (l .ensures) ∙ take-lesser (a .h .len) (a .h .bytes) most-held (held-room (a .h) _ (s .good .0))
+    ap (λ (n : ℕ). take n (a .h .bytes)) (l .ensures) ∙ take-lesser (a .h .len) (a .h .bytes) partial-room (partial-length (a .h) _ (s .good .0))
     in
-    c .hold-part .ensures .1
-    ∙ ap (λ (x : Bytes). hold-all x (part (a .chunk .now) (e .before .lesser .result) (e .line-end .result))) kept
-    ∙ ap (λ (n : ℕ). hold-all (take (a .h .len) (a .h .bytes)) (part (a .chunk .now) n (e .line-end .result))) (e .before .lesser .ensures)
+    c .extend-part .ensures .1
+    ∙ ap (λ (x : Bytes). extend-all x (part (a .chunk .now) (e .before .lesser .result) (e .line-end .result))) kept
+    ∙ ap (λ (n : ℕ). extend-all (take (a .h .len) (a .h .bytes)) (part (a .chunk .now) n (e .line-end .result))) (e .before .lesser .ensures)
 
 add-used : tie.Need-add-used
 add-used c = search needs
@@ -65,7 +65,7 @@ returns c =
       to = e .line-end .result;
       ends = ends e;
       line = line h;
-      few = h .hold-part .ensures .0;
+      few = h .extend-part .ensures .0;
       ended = sym (lt-ltb _ _ (c .if1 .taken));
       used = add-one _;
     }
@@ -78,7 +78,7 @@ returns-2 c =
       to = e .line-end .result;
       ends = ends e;
       line = line h;
-      few = h .hold-part .ensures .0;
+      few = h .extend-part .ensures .0;
       ended = sym (le-ltb _ _ (c .if1 .left));
       used = refl;
     }
@@ -90,7 +90,7 @@ cut-line-spec =
     lesser-requires
     line-end-requires
     lesser-requires-2
-    hold-part-requires
+    extend-part-requires
     add-used
     returns
     returns-2)

@@ -10,10 +10,10 @@ use Rattle.lists.proofs.Tests.{and-left, and-right, cond-false}
 use Rattle.lines.specs.Bytes.{Bytes, line-end}
 use Rattle.lines.specs.Session.{Session, Answer, step}
 use Rattle.lines.specs.Output.{printed-answer, printed-answers}
-use Rattle.lines.specs.Machine.{Machine, hold, answered-by, after-byte, after-bytes, answers-along, printed-along}
+use Rattle.lines.specs.Machine.{Machine, extend, answered-by, after-byte, after-bytes, answers-along, printed-along}
 use Rattle.lines.proofs.Cutting.{one-line}
 use Rattle.lines.proofs.Answers.{after-append, answers-append}
-use Rattle.cutting.specs.Cut.{hold-all}
+use Rattle.cutting.specs.Cut.{extend-all}
 
 apart : (b : ℕ) (bs : Bytes) → one-line (b ∷ bs) ≡ true → (eqb b line-end ≡ false) × (one-line bs ≡ true)
 unfolding every
@@ -22,33 +22,33 @@ apart b bs h =
     (not-true (eqb b line-end) (and-left n (one-line bs) h), and-right n (one-line bs) h)
 
 module _ (s : Session) (i : ℕ) where
-  -- reading a line of which these bytes are held
+  -- reading a line of which these bytes are there
   abbrev pub reading : Bytes → Machine
-  reading l = record { session = s; number = i; held = l }
+  reading l = record { session = s; number = i; partial = l }
 
   -- a byte that ends no line
-  byte-after : (l : Bytes) (b : ℕ) → eqb b line-end ≡ false → after-byte (reading l) b ≡ reading (hold b l)
+  byte-after : (l : Bytes) (b : ℕ) → eqb b line-end ≡ false → after-byte (reading l) b ≡ reading (extend b l)
   unfolding after-byte
-  byte-after l b e = cond-false (eqb b line-end) (record { session = step s l .session; number = suc i; held = [] }) (reading (hold b l)) e
+  byte-after l b e = cond-false (eqb b line-end) (record { session = step s l .session; number = suc i; partial = [] }) (reading (extend b l)) e
 
   byte-answered : (l : Bytes) (b : ℕ) → eqb b line-end ≡ false → answered-by (reading l) b ≡ []
   unfolding answered-by
   byte-answered l b e = cond-false (eqb b line-end) (step s l .answer ∷ []) [] e
 
-  -- bytes that end no line are held, and bring no answer
-  pub part-after : (l bs : Bytes) → one-line bs ≡ true → after-bytes (reading l) bs ≡ reading (hold-all l bs)
-  unfolding after-bytes hold-all
+  -- bytes that end no line are kept, and bring no answer
+  pub part-after : (l bs : Bytes) → one-line bs ≡ true → after-bytes (reading l) bs ≡ reading (extend-all l bs)
+  unfolding after-bytes extend-all
   part-after l [] h = refl
   part-after l (b ∷ bs) h =
       let a = apart b bs h in
-      ap (λ (m : Machine). after-bytes m bs) (byte-after l b (a .0)) ∙ part-after (hold b l) bs (a .1)
+      ap (λ (m : Machine). after-bytes m bs) (byte-after l b (a .0)) ∙ part-after (extend b l) bs (a .1)
 
   part-answered : (l bs : Bytes) → one-line bs ≡ true → answers-along (reading l) bs ≡ []
   unfolding answers-along
   part-answered l [] h = refl
   part-answered l (b ∷ bs) h =
       let a = apart b bs h in
-      ap₂ (λ (x : List Answer) (m : Machine). x ++ answers-along m bs) (byte-answered l b (a .0)) (byte-after l b (a .0)) ∙ part-answered (hold b l) bs (a .1)
+      ap₂ (λ (x : List Answer) (m : Machine). x ++ answers-along m bs) (byte-answered l b (a .0)) (byte-after l b (a .0)) ∙ part-answered (extend b l) bs (a .1)
 
   pub part-printed : (l bs : Bytes) → one-line bs ≡ true → printed-along (reading l) bs ≡ []
   unfolding printed-along printed-answers
@@ -56,16 +56,16 @@ module _ (s : Session) (i : ℕ) where
 
   -- with a line end behind them, the line is answered
   module _ (l bs : Bytes) (h : one-line bs ≡ true) where
-    pub line-after : after-bytes (reading l) (bs ++ (line-end ∷ [])) ≡ record { session = step s (hold-all l bs) .session; number = suc i; held = [] }
+    pub line-after : after-bytes (reading l) (bs ++ (line-end ∷ [])) ≡ record { session = step s (extend-all l bs) .session; number = suc i; partial = [] }
     unfolding after-bytes after-byte line-end
     line-after = after-append (reading l) bs (line-end ∷ []) ∙ ap (λ (m : Machine). after-bytes m (line-end ∷ [])) (part-after l bs h)
 
-    line-answered : answers-along (reading l) (bs ++ (line-end ∷ [])) ≡ step s (hold-all l bs) .answer ∷ []
+    line-answered : answers-along (reading l) (bs ++ (line-end ∷ [])) ≡ step s (extend-all l bs) .answer ∷ []
     unfolding answers-along answered-by line-end
     line-answered =
         answers-append (reading l) bs (line-end ∷ [])
         ∙ ap₂ (λ (x : List Answer) (m : Machine). x ++ answers-along m (line-end ∷ [])) (part-answered l bs h) (part-after l bs h)
 
-    pub line-printed : printed-along (reading l) (bs ++ (line-end ∷ [])) ≡ printed-answer i (step s (hold-all l bs) .answer)
+    pub line-printed : printed-along (reading l) (bs ++ (line-end ∷ [])) ≡ printed-answer i (step s (extend-all l bs) .answer)
     unfolding printed-along printed-answers
-    line-printed = ap (printed-answers i) line-answered ∙ append-nil (printed-answer i (step s (hold-all l bs) .answer))
+    line-printed = ap (printed-answers i) line-answered ∙ append-nil (printed-answer i (step s (extend-all l bs) .answer))

@@ -20,27 +20,27 @@ module _ (m : Machine) where
   abbrev pub last-printed : Bytes
   last-printed = printed-answers (m .number) (last-answers m)
 
-  module _ (h : length (m .held) ≡ 0) where
+  module _ (h : length (m .partial) ≡ 0) where
     -- no line has begun
     pub none-printed : last-printed ≡ []
     unfolding last-answers printed-answers
-    none-printed = ap (printed-answers (m .number)) (cond-true (eqb (length (m .held)) 0) [] (step (m .session) (m .held) .answer ∷ []) (eq-eqb (length (m .held)) 0 h))
+    none-printed = ap (printed-answers (m .number)) (cond-true (eqb (length (m .partial)) 0) [] (step (m .session) (m .partial) .answer ∷ []) (eq-eqb (length (m .partial)) 0 h))
 
     pub none-after : last-session m ≡ m .session
     unfolding last-session
-    none-after = cond-true (eqb (length (m .held)) 0) (m .session) (step (m .session) (m .held) .session) (eq-eqb (length (m .held)) 0 h)
+    none-after = cond-true (eqb (length (m .partial)) 0) (m .session) (step (m .session) (m .partial) .session) (eq-eqb (length (m .partial)) 0 h)
 
-  module _ (h : length (m .held) ≡ 0 → ⊥) where
+  module _ (h : length (m .partial) ≡ 0 → ⊥) where
     -- one has
-    pub begun-printed : last-printed ≡ printed-answer (m .number) (step (m .session) (m .held) .answer)
+    pub begun-printed : last-printed ≡ printed-answer (m .number) (step (m .session) (m .partial) .answer)
     unfolding last-answers printed-answers
     begun-printed =
-        ap (printed-answers (m .number)) (cond-false (eqb (length (m .held)) 0) [] (step (m .session) (m .held) .answer ∷ []) (ne-eqb (length (m .held)) 0 h))
-        ∙ append-nil (printed-answer (m .number) (step (m .session) (m .held) .answer))
+        ap (printed-answers (m .number)) (cond-false (eqb (length (m .partial)) 0) [] (step (m .session) (m .partial) .answer ∷ []) (ne-eqb (length (m .partial)) 0 h))
+        ∙ append-nil (printed-answer (m .number) (step (m .session) (m .partial) .answer))
 
-    pub begun-after : last-session m ≡ step (m .session) (m .held) .session
+    pub begun-after : last-session m ≡ step (m .session) (m .partial) .session
     unfolding last-session
-    begun-after = cond-false (eqb (length (m .held)) 0) (m .session) (step (m .session) (m .held) .session) (ne-eqb (length (m .held)) 0 h)
+    begun-after = cond-false (eqb (length (m .partial)) 0) (m .session) (step (m .session) (m .partial) .session) (ne-eqb (length (m .partial)) 0 h)
 
   module _ (d : Day) (e : session-of d ≡ last-session m) where
     ends : printed-at-end m ≡ last-printed ++ at-end (session-of d .board) (session-of d .tally)

@@ -1,4 +1,4 @@
--- A line of a chunk taken in: it goes on to the chunk's end and its bytes are held, or it ends and is answered.
+-- A line of a chunk taken in: it goes on to the chunk's end and its bytes are kept, or it ends and is answered.
 use mathlib.Core.Bool.{true, false, cond}
 use mathlib.Core.List.{[], _∷_, _++_}
 use mathlib.Core.Path.{_≡_, sym, subst, ap, ap₂, _∙_}
@@ -10,12 +10,12 @@ use lib.ListN.{length}
 use Rattle.lines.specs.Bytes.{Bytes, line-end}
 use Rattle.lines.specs.Session.{Session, step}
 use Rattle.lines.specs.Output.{printed-answer}
-use Rattle.lines.specs.Machine.{most-held, after-bytes, printed-along}
+use Rattle.lines.specs.Machine.{partial-room, after-bytes, printed-along}
 use Rattle.printing.specs.Lines.{put}
 use Rattle.printing.proofs.Puts.{put-none}
-use Rattle.cutting.specs.declared.Held.{Held}
+use Rattle.cutting.specs.declared.Partial.{Partial}
 use Rattle.cutting.specs.declared.Cut.{Cut}
-use Rattle.cutting.specs.Cut.{held-bytes, part, LineEnds, hold-all, CutFrom}
+use Rattle.cutting.specs.Cut.{partial-bytes, part, LineEnds, extend-all, CutFrom}
 use Rattle.cutting.proofs.Parts.{part-last}
 use Rattle.answers.specs.Printed.{answer-room}
 use Rattle.program.specs.declared.session.DayAfter.{DayAfter}
@@ -26,23 +26,23 @@ use Rattle.program.proofs.Feeding.Along.{part-after, part-printed, line
 
 module _
     (k : State) (s : Bytes) (from to : ℕ) (out : Bytes) (at : ℕ) (l : LineEnds s from to)
-    (h : Held) (e : held-bytes h ≡ hold-all (held-bytes (k .held)) (part s from to))
+    (h : Partial) (e : partial-bytes h ≡ extend-all (partial-bytes (k .partial)) (part s from to))
   where
-    taken-part : GoodDay (k .day) → h .len ≤ most-held → at ≤ length out
-        → TakenIn k s from out at (record { state = record { day = k .day; number = k .number; held = h }; used = to; at = at }) out
+    taken-part : GoodDay (k .day) → h .len ≤ partial-room → at ≤ length out
+        → TakenIn k s from out at (record { state = record { day = k .day; number = k .number; partial = h }; used = to; at = at }) out
     unfolding machine-of answer-room
     taken-part g n f =
         let p : printed-along (machine-of k) (part s from to) ≡ [] =
-        part-printed (session-of (k .day)) (k .number) (held-bytes (k .held)) (part s from to) (l .one-line)
+        part-printed (session-of (k .day)) (k .number) (partial-bytes (k .partial)) (part s from to) (l .one-line)
         in
         record {
           good = g;
-          held = n;
+          partial = n;
           forward = l .forward;
           inside = l .inside;
           number = omega (arith, l .forward);
-          machine = ap (λ (x : Bytes). record { session = session-of (k .day); number = k .number; held = x }) e
-              ∙ sym (part-after (session-of (k .day)) (k .number) (held-bytes (k .held)) (part s from to) (l .one-line));
+          machine = ap (λ (x : Bytes). record { session = session-of (k .day); number = k .number; partial = x }) e
+              ∙ sym (part-after (session-of (k .day)) (k .number) (partial-bytes (k .partial)) (part s from to) (l .one-line));
           end = rw p (omega arith);
           few = omega (arith, l .forward);
           fits = f;
@@ -50,32 +50,32 @@ module _
         }
 
     -- its end is in the chunk, and it is answered
-    module _ (m : to < length s) (r : DayAfter) (out' : Bytes) (a : Answered (k .day) (k .number) (held-bytes h) out at r out') where
+    module _ (m : to < length s) (r : DayAfter) (out' : Bytes) (a : Answered (k .day) (k .number) (partial-bytes h) out at r out') where
       used-line : part s from (to + 1) ≡ part s from to ++ (line-end ∷ [])
       used-line = rw add-one (part-last s from to (l .forward) m) ∙ ap (λ (b : ℕ). part s from to ++ (b ∷ [])) (l .ended m)
 
-      printed-line : printed-along (machine-of k) (part s from (to + 1)) ≡ printed-answer (k .number) (step (session-of (k .day)) (held-bytes h) .answer)
+      printed-line : printed-along (machine-of k) (part s from (to + 1)) ≡ printed-answer (k .number) (step (session-of (k .day)) (partial-bytes h) .answer)
       unfolding machine-of
       printed-line =
           ap (printed-along (machine-of k)) used-line
-          ∙ line-printed (session-of (k .day)) (k .number) (held-bytes (k .held)) (part s from to) (l .one-line)
+          ∙ line-printed (session-of (k .day)) (k .number) (partial-bytes (k .partial)) (part s from to) (l .one-line)
           ∙ ap (λ (x : Bytes). printed-answer (k .number) (step (session-of (k .day)) x .answer)) (sym e)
 
       taken-line : (bytes : Bytes) → at + answer-room ≤ length out
-          → TakenIn k s from out at (record { state = record { day = r .day; number = k .number + 1; held = record { bytes = bytes; len = 0 } }; used = to + 1; at = r .at }) out'
-      unfolding machine-of held-bytes answer-room
+          → TakenIn k s from out at (record { state = record { day = r .day; number = k .number + 1; partial = record { bytes = bytes; len = 0 } }; used = to + 1; at = r .at }) out'
+      unfolding machine-of partial-bytes answer-room
       taken-line bytes f =
           record {
             good = a .good;
-            held = omega arith;
+            partial = omega arith;
             forward = omega (arith, l .forward);
             inside = omega arith;
             number = omega (arith, l .forward);
             machine = ap₂
-                (λ (x : Session) (n : ℕ). record { session = x; number = n; held = [] })
+                (λ (x : Session) (n : ℕ). record { session = x; number = n; partial = [] })
                 (a .session ∙ ap (λ (x : Bytes). step (session-of (k .day)) x .session) e)
                 (add-one (k .number))
-                ∙ sym (line-after (session-of (k .day)) (k .number) (held-bytes (k .held)) (part s from to) (l .one-line))
+                ∙ sym (line-after (session-of (k .day)) (k .number) (partial-bytes (k .partial)) (part s from to) (l .one-line))
                 ∙ ap (after-bytes (machine-of k)) (sym used-line);
             end = a .end ∙ ap (λ (x : Bytes). at + length x) (sym printed-line);
             few = omega (arith, l .forward, a .within);
@@ -84,17 +84,17 @@ module _
           }
 
 -- a line cut from the chunk's bytes from `from` on
-module _ (k : State) (s : Bytes) (from : ℕ) (out : Bytes) (at : ℕ) {r : Cut} (inside : from ≤ length s) (c : CutFrom (k .held) s (min from (length s)) r) where
-  cut : CutFrom (k .held) s from r
-  cut = let e : min from (length s) ≡ from = omega arith in subst (λ (n : ℕ). CutFrom (k .held) s n r) e c
+module _ (k : State) (s : Bytes) (from : ℕ) (out : Bytes) (at : ℕ) {r : Cut} (inside : from ≤ length s) (c : CutFrom (k .partial) s (min from (length s)) r) where
+  cut : CutFrom (k .partial) s from r
+  cut = let e : min from (length s) ≡ from = omega arith in subst (λ (n : ℕ). CutFrom (k .partial) s n r) e c
 
   -- its end is not in the chunk
   pub cut-part : r .ended ≡ false → GoodDay (k .day) → at ≤ length out
-      → TakenIn k s from out at (record { state = record { day = k .day; number = k .number; held = r .held }; used = r .used; at = at }) out
+      → TakenIn k s from out at (record { state = record { day = k .day; number = k .number; partial = r .partial }; used = r .used; at = at }) out
   cut-part h g f =
       let e : r .used ≡ cut .to = cut .used ∙ ap (λ b. cond b (suc (cut .to)) (cut .to)) h in
-      subst (λ (n : ℕ). TakenIn k s from out at (record { state = record { day = k .day; number = k .number; held = r .held }; used = n; at = at }) out) (sym e)
-      (taken-part k s from (cut .to) out at (cut .ends) (r .held) (cut .line) g (cut .few) f)
+      subst (λ (n : ℕ). TakenIn k s from out at (record { state = record { day = k .day; number = k .number; partial = r .partial }; used = n; at = at }) out) (sym e)
+      (taken-part k s from (cut .to) out at (cut .ends) (r .partial) (cut .line) g (cut .few) f)
 
   -- and then the chunk is used to its end
   pub cut-all : r .ended ≡ false → r .used ≡ length s
@@ -116,9 +116,9 @@ module _ (k : State) (s : Bytes) (from : ℕ) (out : Bytes) (at : ℕ) {r : Cut}
     used-inside = omega (arith, used-end, ended-in)
 
     -- it is, and the line is answered
-    pub cut-line : (a : DayAfter) (out' : Bytes) → Answered (k .day) (k .number) (held-bytes (r .held)) out at a out' → (bytes : Bytes) → at + answer-room ≤ length out
-        → TakenIn k s from out at (record { state = record { day = a .day; number = k .number + 1; held = record { bytes = bytes; len = 0 } }; used = r .used; at = a .at }) out'
+    pub cut-line : (a : DayAfter) (out' : Bytes) → Answered (k .day) (k .number) (partial-bytes (r .partial)) out at a out' → (bytes : Bytes) → at + answer-room ≤ length out
+        → TakenIn k s from out at (record { state = record { day = a .day; number = k .number + 1; partial = record { bytes = bytes; len = 0 } }; used = r .used; at = a .at }) out'
     cut-line a out' g bytes f =
-        subst (λ (n : ℕ). TakenIn k s from out at (record { state = record { day = a .day; number = k .number + 1; held = record { bytes = bytes; len = 0 } }; used = n; at = a .at }) out')
+        subst (λ (n : ℕ). TakenIn k s from out at (record { state = record { day = a .day; number = k .number + 1; partial = record { bytes = bytes; len = 0 } }; used = n; at = a .at }) out')
         (sym used-end)
-        (taken-line k s from (cut .to) out at (cut .ends) (r .held) (cut .line) ended-in a out' g bytes f)
+        (taken-line k s from (cut .to) out at (cut .ends) (r .partial) (cut .line) ended-in a out' g bytes f)

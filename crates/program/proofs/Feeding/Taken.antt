@@ -8,7 +8,7 @@ use lib.ListN.{length}
 use Rattle.lists.proofs.Tests.{cmp}
 use Rattle.lines.specs.Bytes.{Bytes}
 use Rattle.lines.specs.Output.{printed-answers}
-use Rattle.lines.specs.Machine.{most-held, Machine, after-bytes, answers-along, printed-along}
+use Rattle.lines.specs.Machine.{partial-room, Machine, after-bytes, answers-along, printed-along}
 use Rattle.lines.proofs.Answers.{after-append, printed-append}
 use Rattle.printing.specs.Lines.{put}
 use Rattle.printing.proofs.Puts.{put-none}
@@ -22,14 +22,14 @@ use Rattle.program.specs.declared.feed.Fed.{Fed}
 use Rattle.program.specs.Inner.Days.{GoodDay}
 use Rattle.program.specs.Inner.Machines.{machine-of, TakenIn, GoesOn}
 
-pub taken-none : (k : State) (s : Bytes) (from : ℕ) (out : Bytes) (at : ℕ) → GoodDay (k .day) → k .held .len ≤ most-held → from ≤ length s → at ≤ length out
+pub taken-none : (k : State) (s : Bytes) (from : ℕ) (out : Bytes) (at : ℕ) → GoodDay (k .day) → k .partial .len ≤ partial-room → from ≤ length s → at ≤ length out
     → TakenIn k s from out at (record { state = k; used = from; at = at }) out
 unfolding after-bytes answers-along printed-along printed-answers answer-room
 taken-none k s from out at g h l f =
     let e = part-none s from in
     record {
       good = g;
-      held = h;
+      partial = h;
       forward = omega arith;
       inside = l;
       number = omega arith;
@@ -72,7 +72,7 @@ module _ {k : State} {s : Bytes} {from : ℕ} {out : Bytes} {at : ℕ} {f : Fed}
         let v = part s (f .used) (g .used) in
         record {
           good = b .good;
-          held = b .held;
+          partial = b .partial;
           forward = omega (arith, a .forward, b .forward);
           inside = b .inside;
           number = omega (arith, a .number, b .number);

@@ -8,7 +8,7 @@ use lib.ListN.{length, length-append}
 use Rattle.lists.proofs.Tests.{never}
 use Rattle.lines.specs.Bytes.{Bytes}
 use Rattle.lines.specs.Output.{printed-answers}
-use Rattle.lines.specs.Machine.{most-held, Machine, after-bytes, answers-along, printed-along}
+use Rattle.lines.specs.Machine.{partial-room, Machine, after-bytes, answers-along, printed-along}
 use Rattle.lines.proofs.Answers.{after-append, printed-append}
 use Rattle.cutting.specs.Cut.{part}
 use Rattle.cutting.proofs.Parts.{part-none, part-join, part-whole}
@@ -22,18 +22,18 @@ use Rattle.program.specs.Runs.{ChunkTaken}
 -- so many bytes of the chunk are taken in, and all that they print is written
 pub record Along (first : State) (chunk : Bytes) (state : State) (used written : ℕ) : Type 0 where
   pub good : GoodDay (state .day)
-  pub held : state .held .len ≤ most-held
+  pub partial : state .partial .len ≤ partial-room
   pub inside : used ≤ length chunk
   pub number : state .number ≤ first .number + used
   pub machine : machine-of state ≡ after-bytes (machine-of first) (part chunk 0 used)
   pub all : written ≡ length (printed-along (machine-of first) (part chunk 0 used))
   pub few : written ≤ answer-room * used
 
-pub along-none : (first : State) (chunk : Bytes) → GoodDay (first .day) → first .held .len ≤ most-held → Along first chunk first 0 0
+pub along-none : (first : State) (chunk : Bytes) → GoodDay (first .day) → first .partial .len ≤ partial-room → Along first chunk first 0 0
 unfolding after-bytes answers-along printed-along printed-answers answer-room
 along-none first chunk g h =
     let e = part-none chunk 0 in
-    record { good = g; held = h; inside = omega arith; number = omega arith; machine = rw e; all = rw e; few = omega arith }
+    record { good = g; partial = h; inside = omega arith; number = omega arith; machine = rw e; all = rw e; few = omega arith }
 
 module _ {first : State} {chunk : Bytes} {state : State} {used written : ℕ} (a : Along first chunk state used written) where
   abbrev m : Machine
@@ -46,7 +46,7 @@ module _ {first : State} {chunk : Bytes} {state : State} {used written : ℕ} (a
       let e : part chunk 0 used ≡ chunk = ap (part chunk 0) (omega (arith, a .inside)) ∙ part-whole chunk in
       record {
         good = a .good;
-        held = a .held;
+        partial = a .partial;
         number = omega (arith, a .number, a .inside);
         few = omega (arith, a .few, a .inside);
         machine = λ _. a .machine ∙ ap (after-bytes m) e;
@@ -70,7 +70,7 @@ module _ {first : State} {chunk : Bytes} {state : State} {used written : ℕ} (a
     along-more =
         record {
           good = t .good;
-          held = t .held;
+          partial = t .partial;
           inside = t .inside;
           number = omega (arith, t .number, a .number);
           machine = t .machine
@@ -99,7 +99,7 @@ module _ {first : State} {chunk : Bytes} {state : State} {used written : ℕ} (a
         let e : u ++ rest ≡ chunk = part-join chunk 0 (f .used) (length chunk) (omega arith) (t .inside) (omega arith) ∙ part-whole chunk in
         record {
           good = n .good;
-          held = n .held;
+          partial = n .partial;
           number = omega (arith, n .number, n .inside);
           few = omega (arith, n .few, n .inside);
           machine = λ z. never z refl;

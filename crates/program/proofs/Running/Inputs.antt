@@ -7,7 +7,7 @@ use native.Mathlib.Omega.{arith}
 use lib.ListN.{length, length-append}
 use Rattle.lines.specs.Bytes.{Bytes}
 use Rattle.lines.specs.Output.{printed-answers}
-use Rattle.lines.specs.Machine.{most-held, Machine, new-machine, after-bytes, answers-along, printed-along}
+use Rattle.lines.specs.Machine.{partial-room, Machine, new-machine, after-bytes, answers-along, printed-along}
 use Rattle.lines.proofs.Answers.{after-append, printed-append}
 use Rattle.answers.specs.Printed.{answer-room}
 use Rattle.program.specs.declared.feed.State.{State}
@@ -24,7 +24,7 @@ pub record SoFar (state : State) (read written : ℕ) : Type 0 where
   pub input : Bytes
   pub count : read ≡ length input
   pub good : GoodDay (state .day)
-  pub held : state .held .len ≤ most-held
+  pub partial : state .partial .len ≤ partial-room
   pub number : state .number ≤ 1 + read
   pub machine : machine-of state ≡ after-bytes new-machine input
   pub all : written ≡ length (printed-along new-machine input)
@@ -37,7 +37,7 @@ nothing-read n =
       input = [];
       count = omega arith;
       good = n .good;
-      held = n .held;
+      partial = n .partial;
       number = omega (arith, n .number);
       machine = n .machine;
       all = omega arith;
@@ -78,7 +78,7 @@ module _ {state : State} {read written : ℕ} (s : SoFar state read written) whe
           input = both;
           count = sum;
           good = c .good;
-          held = c .held;
+          partial = c .partial;
           number = omega (arith, c .number, s .number);
           machine = c .machine h ∙ ap (λ (k : Machine). after-bytes k bytes) (s .machine) ∙ sym (after-append new-machine (s .input) bytes);
           all = omega (arith, c .all h, printed);

@@ -3,28 +3,28 @@ use mathlib.Core.Path.{_≡_}
 use Prim.Native.Nat.{ℕ, _+_, _*_, _≤_, _<_}
 use lib.ListN.{length}
 use Rattle.lines.specs.Bytes.{Bytes}
-use Rattle.lines.specs.Machine.{Machine, new-machine, most-held, after-bytes, printed-along}
+use Rattle.lines.specs.Machine.{Machine, new-machine, partial-room, after-bytes, printed-along}
 use Rattle.printing.specs.Lines.{put}
-use Rattle.cutting.specs.Cut.{held-bytes, part}
+use Rattle.cutting.specs.Cut.{partial-bytes, part}
 use Rattle.answers.specs.Printed.{answer-room}
 use Rattle.program.specs.declared.feed.State.{State}
 use Rattle.program.specs.declared.feed.Fed.{Fed}
 use Rattle.program.specs.Inner.Days.{session-of, GoodDay}
 
 unfoldable pub machine-of : State → Machine
-machine-of k = record { session = session-of (k .day); number = k .number; held = held-bytes (k .held) }
+machine-of k = record { session = session-of (k .day); number = k .number; partial = partial-bytes (k .partial) }
 
 -- the state before the first byte
 pub record NewState (k : State) : Type 0 where
   pub good : GoodDay (k .day)
   pub machine : machine-of k ≡ new-machine
   pub number : k .number ≡ 1
-  pub held : k .held .len ≤ most-held
+  pub partial : k .partial .len ≤ partial-room
 
 -- a part of a chunk taken in: the machine is the definition's, and so are the bytes printed, put at `at` in the buffer
 pub record TakenIn (state : State) (chunk : Bytes) (from : ℕ) (out : Bytes) (at : ℕ) (r : Fed) (out' : Bytes) : Type 0 where
   pub good : GoodDay (r .state .day)
-  pub held : r .state .held .len ≤ most-held
+  pub partial : r .state .partial .len ≤ partial-room
   pub forward : from ≤ r .used
   pub inside : r .used ≤ length chunk
   pub number : r .state .number + from ≤ state .number + r .used

@@ -7,7 +7,7 @@ use borrow.Author.Tests.{leb-true, leb-false}
 use lib.ListN.{length}
 use lib.Seq.{length-take-le}
 use Rattle.program.specs.declared.feed.State.{State}
-use Rattle.cutting.specs.Cut.{held-bytes}
+use Rattle.cutting.specs.Cut.{partial-bytes}
 use Rattle.answers.specs.Printed.{answer-room}
 use Rattle.program.specs.Inner.Machines.{TakenIn}
 use Rattle.program.proofs.Feeding.Known.{cut-room}
@@ -17,23 +17,23 @@ use Rattle.program.proofs.feed.feed.Statement.{statement}
 use Rattle.program.proofs.feed.feed.Tie as tie
 
 abbrev Inv-loop : tie.InvT-loop
-Inv-loop chunk from out₀ at day₀ number₀ held₀ used₀ end₀ out day number held used end =
-    TakenIn (record { day = day₀; number = number₀; held = held₀ }) chunk from out₀ at
-    (record { state = record { day = day; number = number; held = held }; used = used; at = end })
+Inv-loop chunk from out₀ at day₀ number₀ partial₀ used₀ end₀ out day number partial used end =
+    TakenIn (record { day = day₀; number = number₀; partial = partial₀ }) chunk from out₀ at
+    (record { state = record { day = day; number = number; partial = partial }; used = used; at = end })
     out
 
 abbrev μ-loop : tie.MeasureT-loop
-μ-loop chunk from out₀ at day₀ number₀ held₀ used₀ end₀ out day number held used end = length chunk - used
+μ-loop chunk from out₀ at day₀ number₀ partial₀ used₀ end₀ out day number partial used end = length chunk - used
 
 -- the state where a turn begins
 abbrev state-at : tie.At-loop Inv-loop μ-loop → State
-state-at c = record { day = c .loop .day; number = c .loop .number; held = c .loop .held }
+state-at c = record { day = c .loop .day; number = c .loop .number; partial = c .loop .partial }
 
 loop-holds : tie.Need-loop-holds Inv-loop μ-loop
 loop-holds c =
     let s = c .before .before .before .before in
     let a = s .args in
-    let k : State = record { day = a .state .day; number = a .state .number; held = a .state .held } in
+    let k : State = record { day = a .state .day; number = a .state .number; partial = a .state .partial } in
     let p = s .pre .1 .0 in
     taken-none k (a .chunk .now) (a .from) (a .out .now) (a .at) (s .pre .0) (p .0) (p .1) (p .2)
 
@@ -43,15 +43,15 @@ add-if1 c = search needs
 cut-line-requires : tie.Need-cut-line-requires Inv-loop μ-loop
 cut-line-requires c κs = search needs
 
--- so many bytes are held
-room-held : (c : tie.After-cut-line Inv-loop μ-loop) → c .cut-line .result .held .len ≤ length (c .cut-line .result .held .bytes)
-room-held c = omega (arith, cut-room (c .cut-line .result) _ (c .cut-line .ok), c .cut-line .ensures .few)
+-- so many bytes are there
+within-room : (c : tie.After-cut-line Inv-loop μ-loop) → c .cut-line .result .partial .len ≤ length (c .cut-line .result .partial .bytes)
+within-room c = omega (arith, cut-room (c .cut-line .result) _ (c .cut-line .ok), c .cut-line .ensures .few)
 
 array-share-prefix-bytes : tie.Need-array-share-prefix-bytes Inv-loop μ-loop
-array-share-prefix-bytes c = room-held (c .before .before .before)
+array-share-prefix-bytes c = within-room (c .before .before .before)
 
 slice-aggregate-answer-line : tie.Need-slice-aggregate-answer-line Inv-loop μ-loop
-slice-aggregate-answer-line c = sym (length-take-le _ _ (room-held (c .before .before .before .before)))
+slice-aggregate-answer-line c = sym (length-take-le _ _ (within-room (c .before .before .before .before)))
 
 -- there is room for what a line prints
 room : (c : tie.Then1 Inv-loop μ-loop) → c .before .before .loop .end + answer-room ≤ length (c .before .before .loop .out)
@@ -84,7 +84,7 @@ loop-less c =
     omega (arith, further (state-at l) (s .args .chunk .now) (l .loop .used) (l .loop .out) (l .loop .end) (l .loop .inv .inside) k (u .if2 .taken), used-inside (state-at l) (s .args .chunk .now) (l .loop .used) (l .loop .out) (l .loop .end) (l .loop .inv .inside) k (u .if2 .taken))
 
 loop-again : tie.Need-loop-again Inv-loop μ-loop
-unfolding held-bytes
+unfolding partial-bytes
 loop-again c =
     let u = c .before .before .before .before .before .before .before in
     let l = turn u in
@@ -93,7 +93,7 @@ loop-again c =
     let r = c .before .before .before .answer-line in
     taken-join (l .loop .inv)
     (cut-line (state-at l) (s .args .chunk .now) (l .loop .used) (l .loop .out) (l .loop .end) (l .loop .inv .inside) (k .ensures) (u .if2 .taken)
-    (r .result) (r .last .1 .1 .1 .0) (r .ensures) (k .result .held .bytes) (room (u .before .before .before)))
+    (r .result) (r .last .1 .1 .1 .0) (r .ensures) (k .result .partial .bytes) (room (u .before .before .before)))
 
 loop-less-2 : tie.Need-loop-less-2 Inv-loop μ-loop
 loop-less-2 c =

@@ -1,4 +1,4 @@
--- `last_line`: a line has begun where a byte is held.
+-- `last_line`: a line has begun where a byte of it is there.
 use mathlib.Core.Path.{_≡_, sym, ap, _∙_}
 use Prim.Native.Nat.{_+_}
 use native.Mathlib.Omega.{arith}
@@ -8,21 +8,21 @@ use lib.Seq.{length-take-le}
 use Rattle.lines.specs.Bytes.{Bytes}
 use Rattle.printing.specs.Lines.{put}
 use Rattle.printing.proofs.Puts.{put-none}
-use Rattle.cutting.specs.Cut.{held-bytes}
+use Rattle.cutting.specs.Cut.{partial-bytes}
 use Rattle.program.specs.Inner.Machines.{machine-of}
 use Rattle.program.proofs.Feeding.Ending.{none-printed, none-after, begun-printed, begun-after}
 use Rattle.program.proofs.Feeding.Known.{state-room}
 use Rattle.program.proofs.feed.last_line.Statement.{statement}
 use Rattle.program.proofs.feed.last_line.Tie as tie
 
--- so many bytes are held
-full : (c : tie.Start) → length (take (c .args .state .held .len) (c .args .state .held .bytes)) ≡ c .args .state .held .len
+-- so many bytes are there
+full : (c : tie.Start) → length (take (c .args .state .partial .len) (c .args .state .partial .bytes)) ≡ c .args .state .partial .len
 full c =
-    let h = c .args .state .held in
+    let h = c .args .state .partial in
     length-take-le (h .len) (h .bytes) (omega (arith, state-room (c .args .state) _ (c .good .0)))
 
 returns : tie.Need-returns
-unfolding machine-of held-bytes
+unfolding machine-of partial-bytes
 returns c =
     let s = c .before .before .before .before in
     let a = s .args in
@@ -52,13 +52,13 @@ same-length : tie.Need-same-length
 same-length c = search needs
 
 returns-2 : tie.Need-returns-2
-unfolding machine-of held-bytes
+unfolding machine-of partial-bytes
 returns-2 c =
     let t = c .before .before .before .before .before .before in
     let s = t .before .before .before .before in
     let a = s .args in
     let m = machine-of (a .state) in
-    let begun : length (m .held) ≡ 0 → ⊥ = λ z. t .if1 .left (sym (full s) ∙ z) in
+    let begun : length (m .partial) ≡ 0 → ⊥ = λ z. t .if1 .left (sym (full s) ∙ z) in
     let r = c .before .before .answer-line .ensures in
     let e = begun-printed m begun in
     record {

@@ -53,7 +53,7 @@ unfolding most-read answer-room buffer-length
 stop-requires c κs =
     let v = c .before .before .before .before .before .before .loop .inv in
     let t = c .before .before .before .before .before .loop-test .taken in
-    (v .0 .good, (v .0 .held, v .2, omega (arith, v .0 .few, t)))
+    (v .0 .good, (v .0 .partial, v .2, omega (arith, v .0 .few, t)))
 
 returns : tie.Need-returns Inv-loop μ-loop
 returns c = stopped (c .before .before .before .before .before .before .before .before .loop .inv .0) (c .before .stop .ensures)
@@ -99,7 +99,7 @@ take-in-requires c κs =
     let g = c .before .before .before in
     let v = here g .loop .inv in
     let t = g .before .before .before .before .before .loop-test .taken in
-    (v .0 .good, ((v .0 .held, omega (arith, as-many g, some g .1, v .0 .number, t)), (omega (arith, as-many g, some g .1), v .2)))
+    (v .0 .good, ((v .0 .partial, omega (arith, as-many g, some g .1, v .0 .number, t)), (omega (arith, as-many g, some g .1), v .2)))
 
 add-read : tie.Need-add-read Inv-loop μ-loop
 unfolding buffer-length most-read

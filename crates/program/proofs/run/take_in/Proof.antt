@@ -28,7 +28,7 @@ feed-requires c κs =
     let l = c .before .before in
     let s = l .before .before .before in
     let a = l .loop .inv .0 in
-    (a .good, ((a .held, a .inside, omega arith), omega (arith, a .number, s .pre .1 .0 .1)))
+    (a .good, ((a .partial, a .inside, omega arith), omega (arith, a .number, s .pre .1 .0 .1)))
 
 -- a part taken in
 module _ (c : tie.After-feed Inv-loop μ-loop) where
