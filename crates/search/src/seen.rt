@@ -4,8 +4,7 @@ ghost use mathlib.Core.Path.{_≡_};
 ghost use Prim.Native.Nat.{_≤_};
 ghost use Rattle.board.specs.Limits.{deepest};
 ghost use Rattle.board.specs.Held.{job-in};
-ghost use Rattle.search.specs.Inner.Seen.{seen-job};
-ghost use Rattle.search.specs.Inner.Inside.{SeenOf};
+ghost use Rattle.search.specs.Inner.Seen.{seen-job, only-seen as only-seen-of};
 use crate::within;
 use board::Board;
 use board::Place;
@@ -31,12 +30,18 @@ fn is_seen(now: Slot, depth: u8, p: Place) -> bool
 // The board with the jobs that are seen, from the first place on, and no other.
 pub(crate) fn only_seen(b: Board) -> Board
     requires { ⌜ b .depth ≤ deepest ⌝ }
-    ensures { λ r. ⌜ SeenOf b r ⌝ }
+    ensures { λ r. ⌜ r ≡ only-seen-of b ⌝ }
 {
     let count = lists::lesser(b.count, Board::PLACES);
     let now = b.slot;
     let depth = b.depth;
-    let mut places = b.places;
+    let blank = Place {
+        ticket: 0,
+        admitted: Slot(0),
+        last: Slot(0),
+        grade: 0,
+    };
+    let mut places = [blank; Board::PLACES];
     let mut kept: usize = 0;
     let mut i: usize = 0;
     while i < count {

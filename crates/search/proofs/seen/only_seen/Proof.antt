@@ -1,18 +1,19 @@
 -- `search::seen::only_seen`: after i places the new ones begin with those among them whose jobs are seen. Assumes nothing.
 use mathlib.Core.Path.{sym, _∙_}
 use mathlib.Core.Logic.{⊎-elim}
-use Prim.Native.Nat.{_-_, _≤_, _<_}
+use Prim.Native.Nat.{_-_}
 use native.Mathlib.Omega.{arith}
 use borrow.Author.Needs.{needs}
-use lib.ListN.{length}
 use Rattle.board.specs.Limits.{places-held}
+use Rattle.board.specs.Held.{slot-of}
 use Rattle.board.proofs.Known.{all-places}
-use Rattle.search.proofs.OnlySeen.{Kept, kept-none, kept-more, kept-same, seen-of}
+use Rattle.board.proofs.Thinning.{Thinning, thinning-none, thinning-same, thinning-more, thinning-all}
+use Rattle.search.specs.Inner.Seen.{seen-job, only-seen}
 use Rattle.search.proofs.seen.only_seen.Statement.{statement}
 use Rattle.search.proofs.seen.only_seen.Tie as tie
 
 abbrev Inv-loop : tie.InvT-loop
-Inv-loop b count now depth places₀ kept₀ i₀ places kept i = (i ≤ count) × (count ≤ places-held) × Kept b i kept places
+Inv-loop b count now depth places₀ kept₀ i₀ places kept i = Thinning b (seen-job (slot-of b) (b .depth)) count i kept places
 
 abbrev μ-loop : tie.MeasureT-loop
 μ-loop b count now depth places₀ kept₀ i₀ places kept i = count - i
@@ -22,7 +23,10 @@ lesser-requires c κs = search needs
 
 loop-holds : tie.Need-loop-holds Inv-loop μ-loop
 unfolding places-held
-loop-holds c = (omega arith, omega (arith, c .before .before .lesser .ensures), kept-none _)
+loop-holds c =
+    let l = c .before in
+    let s = l .before in
+    thinning-none (all-places (s .args .t1) _ (s .good .0)) (l .lesser .ensures)
 
 mul-p : tie.Need-mul-p Inv-loop μ-loop
 unfolding places-held
@@ -56,24 +60,14 @@ loop-less c = search needs
 
 loop-again : tie.Need-loop-again Inv-loop μ-loop
 loop-again c =
-    let l = c .before .before .before .before in
-    let s = l .before .before .before .before in
-    let b = s .args .t1 in
-    let v = l .loop .inv in
-    let there : l .loop .i < length (b .places) = omega (arith, all-places b _ (s .good .0)) in
+    let t = c .before .before .before .before .loop .inv in
+    let h = c .before .before .before .loop-test .taken in
     let e = sym (c .before .is-seen .ensures) in
-    ⊎-elim
-    (λ w. (omega arith, v .1, rw (w .1, w .2) (kept-more b _ _ _ there (v .2) (e ∙ w .0 .taken))))
-    (λ w. (omega arith, v .1, rw (w .1, w .2) (kept-same b _ _ _ there (v .2) (e ∙ w .0 .left))))
-    (c .if1 .came)
+    ⊎-elim (λ w. rw (w .1, w .2) (thinning-more t h (e ∙ w .0 .taken))) (λ w. rw (w .1, w .2) (thinning-same t h (e ∙ w .0 .left))) (c .if1 .came)
 
 returns : tie.Need-returns Inv-loop μ-loop
-unfolding places-held
-returns c =
-    let l = c .before in
-    let s = l .before .before .before .before in
-    let b = s .args .t1 in
-    seen-of b (all-places b _ (s .good .0)) (s .pre) _ _ _ (omega (arith, l .before .before .before .lesser .ensures)) (l .loop .inv .2)
+unfolding only-seen
+returns c = thinning-all (c .before .loop .inv) (omega arith) _
 
 pub only-seen-spec : {M : Type 1} → statement M
 only-seen-spec =
