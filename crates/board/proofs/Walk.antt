@@ -1,11 +1,12 @@
 -- A walk along the places of a board in use, by a test of the jobs in them.
 use mathlib.Core.Path.{_≡_, refl, sym, ap, _∙_}
 use mathlib.Core.Bool.{Bool, true, false}
-use mathlib.Core.List.{List, [], _∷_, _++_, map, map-append}
+use mathlib.Core.List.{List, [], _∷_, _++_, map, map-append, List·Memᴰ, Memᴰ·map}
 use Prim.Native.Nat.{ℕ, _+_, _≤_, _<_, min}
 use native.Mathlib.Omega.{arith}
 use lib.ListN.{length, getD, length-append, length-map}
 use Rattle.lists.specs.Select.{select}
+use Rattle.lists.proofs.Members.{take-mem}
 use Rattle.lists.proofs.Parts.{select-map}
 use Rattle.lists.proofs.Filling.{passed, passed-none, passed-same, passed-more, passed-all}
 use Rattle.rule.specs.Job.{Job}
@@ -17,6 +18,11 @@ use Rattle.board.specs.Held.{job-in, blank, used, held, passing}
 -- the place i
 abbrev pub place-at : Board → ℕ → Place
 place-at b i = getD (b .places) i blank
+
+-- the job in a place in use is held
+pub place-held : (b : Board) (i : ℕ) → i < b .count → i < length (b .places) → List·Memᴰ (job-in (place-at b i)) (held b)
+unfolding held used
+place-held b i h there = Memᴰ·map job-in (take-mem (b .places) (b .count) i blank h there)
 
 -- the job in a place passes
 abbrev pub job-passes : (Job → Bool) → Place → Bool
