@@ -1,5 +1,5 @@
 -- A walk along the places of a board in use, by a test of the jobs in them.
-use mathlib.Core.Path.{_≡_, refl, sym, ap, _∙_}
+use mathlib.Core.Path.{_≡_, sym, ap, _∙_}
 use mathlib.Core.Bool.{Bool, true, false}
 use mathlib.Core.List.{List, [], _∷_, _++_, map, map-append, List·Memᴰ, Memᴰ·map}
 use Prim.Native.Nat.{ℕ, _+_, _≤_, _<_, min}
