@@ -1,4 +1,4 @@
--- A walk along the jobs of a board.
+-- The jobs that the loops of the search look for, and what is known at each job of a board whose jobs are all seen.
 use mathlib.Core.Path.{_≡_, sym, ap, _∙_}
 use mathlib.Core.Bool.{Bool, _&&_}
 use mathlib.Core.List.{List·Memᴰ}

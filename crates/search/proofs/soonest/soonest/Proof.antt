@@ -30,10 +30,7 @@ unfolding places-held
 element-copy-out-p c = omega arith
 
 is-within-requires : tie.Need-is-within-requires Inv-loop μ-loop
-is-within-requires c κs =
-    let k = c .before .before in
-    let s = k .before .before in
-    place-asks (s .args .t1) (s .pre .0) (k .loop .i) (omega arith) (s .args .start) (s .args .left) (s .pre .1)
+is-within-requires c κs = let s = c .before .before .before .before in place-asks _ (s .pre .0) _ (c .before .loop-test .taken) _ _ (s .pre .1)
 
 take-sooner-requires : tie.Need-take-sooner-requires Inv-loop μ-loop
 take-sooner-requires c κs = search needs
