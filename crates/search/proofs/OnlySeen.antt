@@ -17,20 +17,25 @@ use Rattle.board.specs.Limits.{places-held, deepest}
 use Rattle.board.specs.Held.{slot-of, held, passing, thinned}
 use Rattle.board.proofs.Thinning.{passing-few, thinned-full}
 use Rattle.board.proofs.Calls.HeldAfter.{held-thinned}
-use Rattle.search.specs.Inner.Seen.{seen-job, seen, only-seen, bakes-seen}
+use Rattle.search.specs.declared.thinning.Kept.the-variants.{Seen}
+use Rattle.search.specs.Inner.Seen.{seen-job, seen, bakes-seen}
+use Rattle.search.specs.Inner.Kept.{keeps}
 use Rattle.search.specs.Inner.Inside.{AllSeen}
 use Rattle.search.proofs.Seeing.{facts-seen, member-seen, none-seen}
 
+unfoldable pub only-seen : Board → Board
+only-seen b = thinned b (slot-of b) (keeps Seen (slot-of b) (b .depth))
+
 module _ (b : Board) where
   only-jobs : held (only-seen b) ≡ seen b
-  unfolding only-seen seen
+  unfolding only-seen keeps seen
   only-jobs = held-thinned b _ _
 
   only-each : (r : Job) → List·Memᴰ r (held (only-seen b)) → seen-job (slot-of b) (b .depth) r ≡ true
   only-each r m = facts-seen _ _ r (member-seen b r (subst (List·Memᴰ r) only-jobs m))
 
   pub only-all-seen : length (b .places) ≡ places-held → b .depth ≤ deepest → AllSeen (only-seen b)
-  unfolding only-seen thinned
+  unfolding only-seen keeps thinned
   only-all-seen full shallow =
       let few : length (passing b (seen-job (slot-of b) (b .depth))) ≤ places-held = omega (arith, passing-few b (seen-job (slot-of b) (b .depth))) in
       record { full = thinned-full b (slot-of b) (seen-job (slot-of b) (b .depth)) few; shallow = shallow; counted = few; each = only-each }

@@ -1,5 +1,5 @@
 -- `search::bake`: the grade that the descent ends at has the no-regret set, and the soonest job of it is baked. Assumes nothing.
-use mathlib.Core.Path.{sym, ap, _∙_, subst}
+use mathlib.Core.Path.{_≡_, sym, ap, _∙_, subst}
 use native.Mathlib.Omega.{arith}
 use borrow.Author.Needs.{needs}
 use Rattle.rule.specs.Bake.{baked, ticket-of, grade-of}
@@ -9,7 +9,7 @@ use Rattle.board.specs.Held.{slot-of, held}
 use Rattle.board.proofs.Known.{all-places}
 use Rattle.search.specs.Inner.Inside.{AllSeen}
 use Rattle.search.proofs.NextBit.{bakes-found}
-use Rattle.search.proofs.OnlySeen.{only-all-seen, only-bakes, bakes-none}
+use Rattle.search.proofs.OnlySeen.{only-seen, only-all-seen, only-bakes, bakes-none}
 use Rattle.search.proofs.bake.Statement.{statement}
 use Rattle.search.proofs.bake.Tie as tie
 
@@ -20,15 +20,18 @@ returns : tie.Need-returns
 unfolding deepest ticket-of grade-of
 returns c = let e = bakes-none (c .before .before .args .b) (omega arith) in (sym (ap ticket-of e), sym (ap grade-of e))
 
-only-seen-requires : tie.Need-only-seen-requires
-unfolding deepest
-only-seen-requires c κs = omega arith
+thinned-requires : tie.Need-thinned-requires
+thinned-requires c κs = search needs
 
-all-seen : (c : tie.After-only-seen) → AllSeen (c .only-seen .result)
+only : (c : tie.After-thinned) → c .thinned .result ≡ only-seen (c .before .before .before .before .args .b)
+unfolding only-seen
+only c = c .thinned .ensures
+
+all-seen : (c : tie.After-thinned) → AllSeen (c .thinned .result)
 unfolding deepest
 all-seen c =
-    let s = c .before .before .before in
-    subst AllSeen (sym (c .only-seen .ensures)) (only-all-seen (s .args .b) (all-places (s .args .b) _ (s .good .0)) (omega arith))
+    let s = c .before .before .before .before in
+    subst AllSeen (sym (only c)) (only-all-seen (s .args .b) (all-places (s .args .b) _ (s .good .0)) (omega arith))
 
 descend-requires : tie.Need-descend-requires
 descend-requires c κs = (all-seen c, omega arith)
@@ -43,8 +46,8 @@ returns-2 : tie.Need-returns-2
 returns-2 c =
     let t = c .before .tight in
     let d = c .before .before .descend in
-    let s = c .before .before .before .only-seen in
-    let e = bakes-found _ _ _ (d .result) (t .result .0) (d .ensures .0) (t .ensures) ∙ ap (λ (x : Board). baked (slot-of x) (x .depth) (held x)) (s .ensures) ∙ only-bakes _ in
+    let s = c .before .before .before in
+    let e = bakes-found _ _ _ (d .result) (t .result .0) (d .ensures .0) (t .ensures) ∙ ap (λ (x : Board). baked (slot-of x) (x .depth) (held x)) (only s) ∙ only-bakes _ in
     (c .soonest .ensures .0 ∙ ap ticket-of e, c .soonest .ensures .1 ∙ ap grade-of e)
 
 pub bake-spec : {M : Type 1} → statement M
@@ -53,7 +56,7 @@ bake-spec =
     (tie.spec
     cast-if1
     returns
-    only-seen-requires
+    thinned-requires
     descend-requires
     tight-requires
     soonest-requires

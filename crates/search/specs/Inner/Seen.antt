@@ -9,7 +9,7 @@ use Rattle.rule.specs.Job.{Job, laxity, in-date}
 use Rattle.rule.specs.Bake.{baked}
 use Rattle.board.specs.declared.Board.{Board}
 use Rattle.board.specs.Limits.{longest-laxity, deepest}
-use Rattle.board.specs.Held.{slot-of, held, thinned}
+use Rattle.board.specs.Held.{slot-of, held}
 
 -- A job that could stand on a sound board of depth d in the slot `now`: 'depth is at most 3', 'Tickets are 32-bit numbers, 1 to 4,294,967,295',
 -- 'present slot ≤ last slot', 'Longest wait 32', 'grades are below 2^D'.
@@ -21,10 +21,6 @@ seen-job now d r =
 -- The jobs in the board's places that are seen; of a sound board all.
 unfoldable pub seen : Board → List Job
 seen b = select (seen-job (slot-of b) (b .depth)) (held b)
-
--- The board with these jobs only.
-unfoldable pub only-seen : Board → Board
-only-seen b = thinned b (slot-of b) (seen-job (slot-of b) (b .depth))
 
 -- The job that the slot bakes of those; of a sound board, the job that it bakes (proofs/OnSound).
 unfoldable pub bakes-seen : Board → Option Job

@@ -1,4 +1,4 @@
--- `search::seen::only_seen`: after i places the new ones begin with those among them whose jobs are seen. Assumes nothing.
+-- `search::thinning::thinned`: after i places the new ones begin with those among them whose jobs are kept. Assumes nothing.
 use mathlib.Core.Path.{sym, _∙_}
 use mathlib.Core.Logic.{⊎-elim}
 use Prim.Native.Nat.{_-_}
@@ -8,15 +8,15 @@ use Rattle.board.specs.Limits.{places-held}
 use Rattle.board.specs.Held.{slot-of}
 use Rattle.board.proofs.Known.{all-places}
 use Rattle.board.proofs.Thinning.{Thinning, thinning-none, thinning-same, thinning-more, thinning-all}
-use Rattle.search.specs.Inner.Seen.{seen-job, only-seen}
-use Rattle.search.proofs.seen.only_seen.Statement.{statement}
-use Rattle.search.proofs.seen.only_seen.Tie as tie
+use Rattle.search.specs.Inner.Kept.{keeps}
+use Rattle.search.proofs.thinning.thinned.Statement.{statement}
+use Rattle.search.proofs.thinning.thinned.Tie as tie
 
 abbrev Inv-loop : tie.InvT-loop
-Inv-loop b count now depth places₀ kept₀ i₀ places kept i = Thinning b (seen-job (slot-of b) (b .depth)) count i kept places
+Inv-loop slot kept b count now depth places₀ n₀ i₀ places n i = Thinning b (keeps kept (slot-of b) (b .depth)) count i n places
 
 abbrev μ-loop : tie.MeasureT-loop
-μ-loop b count now depth places₀ kept₀ i₀ places kept i = count - i
+μ-loop slot kept b count now depth places₀ n₀ i₀ places n i = count - i
 
 lesser-requires : tie.Need-lesser-requires Inv-loop μ-loop
 lesser-requires c κs = search needs
@@ -36,8 +36,8 @@ element-copy-out-p : tie.Need-element-copy-out-p Inv-loop μ-loop
 unfolding places-held
 element-copy-out-p c = search needs
 
-is-seen-requires : tie.Need-is-seen-requires Inv-loop μ-loop
-is-seen-requires c κs = search needs
+is-kept-requires : tie.Need-is-kept-requires Inv-loop μ-loop
+is-kept-requires c κs = search needs
 
 mul-places : tie.Need-mul-places Inv-loop μ-loop
 unfolding places-held
@@ -47,9 +47,9 @@ array-set-from-places : tie.Need-array-set-from-places Inv-loop μ-loop
 unfolding places-held
 array-set-from-places c = search needs
 
-add-kept : tie.Need-add-kept Inv-loop μ-loop
+add-n : tie.Need-add-n Inv-loop μ-loop
 unfolding places-held
-add-kept c = search needs
+add-n c = search needs
 
 add-i : tie.Need-add-i Inv-loop μ-loop
 unfolding places-held
@@ -62,15 +62,14 @@ loop-again : tie.Need-loop-again Inv-loop μ-loop
 loop-again c =
     let t = c .before .before .before .before .loop .inv in
     let h = c .before .before .before .loop-test .taken in
-    let e = sym (c .before .is-seen .ensures) in
+    let e = sym (c .before .is-kept .ensures) in
     ⊎-elim (λ w. rw (w .1, w .2) (thinning-more t h (e ∙ w .0 .taken))) (λ w. rw (w .1, w .2) (thinning-same t h (e ∙ w .0 .left))) (c .if1 .came)
 
 returns : tie.Need-returns Inv-loop μ-loop
-unfolding only-seen
 returns c = thinning-all (c .before .loop .inv) (omega arith) _
 
-pub only-seen-spec : {M : Type 1} → statement M
-only-seen-spec =
+pub thinned-spec : {M : Type 1} → statement M
+thinned-spec =
     tie.close
     (tie.spec
     Inv-loop
@@ -79,10 +78,10 @@ only-seen-spec =
     loop-holds
     mul-p
     element-copy-out-p
-    is-seen-requires
+    is-kept-requires
     mul-places
     array-set-from-places
-    add-kept
+    add-n
     add-i
     loop-less
     loop-again
