@@ -1,4 +1,6 @@
 pub mod Known
+pub mod Walk
+pub mod Thinning
 pub mod Grades
 pub mod Soundness
 pub mod Calls

@@ -6,5 +6,6 @@ pub mod Rising
 pub mod Joined
 pub mod Once
 pub mod Parts
+pub mod Filling
 pub mod Spread
 pub mod Less

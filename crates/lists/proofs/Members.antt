@@ -3,8 +3,10 @@ use mathlib.Core.Path.{_≡_, refl, sym, ap, ap₂, _∙_, subst}
 use mathlib.Core.Bool.{Bool, true, false, _&&_, _||_, cond}
 use mathlib.Core.Logic.{_⊎_, inl, inr}
 use mathlib.Core.List.{List, [], _∷_, _++_, List·Memᴰ, List·Memᴰ·head, List·Memᴰ·tail, List·Memᴰ·cases-cons, List·Memᴰ·not-nil}
-use Prim.Native.Nat.{ℕ, _≤_}
+use Prim.Native.Nat.{ℕ, zero, suc, _≤_, _<_}
+use native.Mathlib.Omega.{arith}
 use lib.Dec.{leb}
+use lib.ListN.{length, getD, take}
 use borrow.Author.Tests.{le-leb}
 use Rattle.lists.specs.Select.{select, every, has}
 use Rattle.lists.proofs.Tests.{test, never, and-left, and-right, and-intro, or-cases, or-left, or-right, or-false, cond-true, cond-false}
@@ -133,3 +135,10 @@ select-all p (a ∷ l) f = ap₂ (λ b k. cond b (a ∷ k) k) (f a (List·Memᴰ
 -- a comparison that each member passes
 pub le-every : {A : Type 0} {f g : A → ℕ} (l : List A) → ((x : A) → List·Memᴰ x l → f x ≤ g x) → every (λ x. leb (f x) (g x)) l ≡ true
 le-every {f = f} {g = g} l h = mem-every _ l (λ x m. le-leb (f x) (g x) (h x m))
+
+-- an element before the place n is among the first n
+pub take-mem : {A : Type 0} (l : List A) (n i : ℕ) (d : A) → i < n → i < length l → List·Memᴰ (getD l i d) (take n l)
+take-mem [] n i d h k = absurd (omega arith)
+take-mem (a ∷ l) zero i d h k = absurd (omega arith)
+take-mem (a ∷ l) (suc n) zero d h k = List·Memᴰ·head refl
+take-mem (a ∷ l) (suc n) (suc i) d h k = List·Memᴰ·tail (take-mem l n i d (omega arith) (omega arith))

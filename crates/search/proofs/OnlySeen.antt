@@ -1,78 +1,49 @@
--- The board with the jobs that are seen and no other: its places while they are filled, and what it holds in the end.
-use mathlib.Core.Path.{_≡_, refl, sym, ap, ap₂, _∙_, subst}
-use mathlib.Core.Bool.{true, false}
-use mathlib.Core.List.{List, [], _∷_, _++_, map, map-append, List·Memᴰ}
+-- The board with the jobs that are seen and no other.
+use mathlib.Core.Path.{_≡_, ap, subst}
+use mathlib.Core.Bool.{true}
+use mathlib.Core.List.{List·Memᴰ}
 use mathlib.Core.Option.{none}
-use Prim.Native.Nat.{ℕ, _+_, _≤_, _<_, min}
-use native.Mathlib.Numerals.{add-one}
+use Prim.Native.Nat.{_≤_, _<_}
 use native.Mathlib.Omega.{arith}
-use lib.ListN.{length, take, set, length-set}
-use lib.Seq.{take-suc-set}
+use lib.ListN.{length}
 use Rattle.lists.specs.Select.{select}
 use Rattle.rule.specs.Job.{Job}
 use Rattle.rule.specs.Grade.{starting}
 use Rattle.rule.specs.Tight.{tight}
 use Rattle.rule.specs.Descent.{no-regret-after, no-regret}
 use Rattle.rule.specs.Bake.{soonest, baked}
-use Rattle.board.specs.declared.Place.{Place}
 use Rattle.board.specs.declared.Board.{Board}
 use Rattle.board.specs.Limits.{places-held, deepest}
-use Rattle.board.specs.Held.{slot-of, job-in, used, held}
+use Rattle.board.specs.Held.{slot-of, held, passing, thinned}
+use Rattle.board.proofs.Thinning.{passing-few, thinned-full}
+use Rattle.board.proofs.Calls.HeldAfter.{held-thinned}
+use Rattle.search.specs.declared.thinning.Kept.the-variants.{Seen}
 use Rattle.search.specs.Inner.Seen.{seen-job, seen, bakes-seen}
-use Rattle.search.specs.Inner.Inside.{SeenOf}
+use Rattle.search.specs.Inner.Kept.{keeps}
+use Rattle.search.specs.Inner.Inside.{AllSeen}
 use Rattle.search.proofs.Seeing.{facts-seen, member-seen, none-seen}
-use Rattle.search.proofs.Walk.{place-at, jobs-to, jobs-all, one-more, none-more}
 
--- the places while those of the jobs seen are moved to their start: `kept` of the first i places are
-pub record Kept (b : Board) (i kept : ℕ) (places : List Place) : Type 0 where
-  pub few : kept ≤ i
-  pub long : length places ≡ length (b .places)
-  pub jobs : map job-in (take kept places) ≡ select (seen-job (slot-of b) (b .depth)) (jobs-to b i)
+unfoldable pub only-seen : Board → Board
+only-seen b = thinned b (slot-of b) (keeps Seen (slot-of b) (b .depth))
 
-pub kept-none : (b : Board) → Kept b 0 0 (b .places)
-unfolding select
-kept-none b = record { few = omega arith; long = refl; jobs = refl }
+module _ (b : Board) where
+  only-jobs : held (only-seen b) ≡ seen b
+  unfolding only-seen keeps seen
+  only-jobs = held-thinned b _ _
 
-module _ (b : Board) (i kept : ℕ) (places : List Place) (there : i < length (b .places)) (k : Kept b i kept places) where
-  pub kept-more : seen-job (slot-of b) (b .depth) (job-in (place-at b i)) ≡ true → Kept b (i + 1) (kept + 1) (set places kept (place-at b i))
-  kept-more e =
-      record {
-        few = omega (arith, k .few);
-        long = length-set places kept (place-at b i) ∙ k .long;
-        jobs =
-            rw (add-one, take-suc-set places kept (place-at b i) (omega (arith, k .few, k .long)))
-            (map-append job-in (take kept places) (place-at b i ∷ []) ∙ ap (λ l. l ++ (job-in (place-at b i) ∷ [])) (k .jobs) ∙ sym (one-more b i there _ e));
-      }
+  only-each : (r : Job) → List·Memᴰ r (held (only-seen b)) → seen-job (slot-of b) (b .depth) r ≡ true
+  only-each r m = facts-seen _ _ r (member-seen b r (subst (List·Memᴰ r) only-jobs m))
 
-  pub kept-same : seen-job (slot-of b) (b .depth) (job-in (place-at b i)) ≡ false → Kept b (i + 1) kept places
-  kept-same e = record { few = omega (arith, k .few); long = k .long; jobs = k .jobs ∙ sym (none-more b i there _ e) }
+  pub only-all-seen : length (b .places) ≡ places-held → b .depth ≤ deepest → AllSeen (only-seen b)
+  unfolding only-seen keeps thinned
+  only-all-seen full shallow =
+      let few : length (passing b (seen-job (slot-of b) (b .depth))) ≤ places-held = omega (arith, passing-few b (seen-job (slot-of b) (b .depth))) in
+      record { full = thinned-full b (slot-of b) (seen-job (slot-of b) (b .depth)) few; shallow = shallow; counted = few; each = only-each }
 
--- once all places are looked at
-module _ (b : Board) (full : length (b .places) ≡ places-held) (shallow : b .depth ≤ deepest) (i kept : ℕ) (places : List Place)
-    (e : i ≡ min (b .count) places-held) (k : Kept b i kept places) where
-  abbrev left : Board
-  left = record { depth = b .depth; slot = b .slot; highest = b .highest; count = kept; places = places }
-
-  left-jobs : held left ≡ seen b
-  unfolding held used seen
-  left-jobs = k .jobs ∙ ap (select (seen-job (slot-of b) (b .depth))) (jobs-all b i full e)
-
-  left-each : (r : Job) → List·Memᴰ r (held left) → seen-job (slot-of b) (b .depth) r ≡ true
-  left-each r m = facts-seen _ _ r (member-seen b r (subst (List·Memᴰ r) left-jobs m))
-
-  pub seen-of : SeenOf b left
-  seen-of =
-      record {
-        depth = refl;
-        slot = refl;
-        jobs = left-jobs;
-        all-seen = record { full = k .long ∙ full; shallow = shallow; counted = omega (arith, k .few); each = left-each };
-      }
-
--- what that board bakes
-pub bakes-of : (b s : Board) → SeenOf b s → baked (slot-of s) (s .depth) (held s) ≡ bakes-seen b
-unfolding bakes-seen
-bakes-of b s f = ap₂ (λ now d. baked now d (held s)) (f .slot) (f .depth) ∙ ap (baked (slot-of b) (b .depth)) (f .jobs)
+  -- what it bakes
+  pub only-bakes : baked (slot-of (only-seen b)) (only-seen b .depth) (held (only-seen b)) ≡ bakes-seen b
+  unfolding bakes-seen only-seen thinned
+  only-bakes = ap (baked (slot-of b) (b .depth)) only-jobs
 
 -- at a depth above the greatest nothing is baked
 pub bakes-none : (b : Board) → deepest < b .depth → bakes-seen b ≡ none

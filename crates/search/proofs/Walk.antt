@@ -1,34 +1,23 @@
--- A walk along the jobs of a board.
-use mathlib.Core.Path.{_≡_, refl, sym, ap, _∙_}
-use mathlib.Core.Bool.{Bool, true, false, _&&_}
-use mathlib.Core.Logic.{⊎-elim}
-use mathlib.Core.List.{List, [], _∷_, _++_, map, map-append, append-nil, List·Memᴰ, List·Memᴰ·head, List·Memᴰ·tail, Memᴰ·map}
-use Prim.Native.Nat.{ℕ, zero, suc, _+_, _*_, _/_, _^_, _≤_, _<_, min}
-use native.Mathlib.Numerals.{add-one}
+-- The jobs that the loops of the search look for, and what is known at each job of a board whose jobs are all seen.
+use mathlib.Core.Path.{_≡_, sym, ap, _∙_}
+use mathlib.Core.Bool.{Bool, _&&_}
+use mathlib.Core.List.{List·Memᴰ}
+use Prim.Native.Nat.{ℕ, _+_, _*_, _/_, _^_, _≤_, _<_}
 use native.Mathlib.Omega.{arith}
 use lib.Dec.{leb, eqb}
-use lib.ListN.{length, getD, take}
+use lib.ListN.{length}
 use lib.Pow.{pow-mono}
-use lib.Seq.{take-suc, take-all}
 use Rattle.lists.specs.Select.{select}
-use Rattle.lists.proofs.Tests.{cmp}
-use Rattle.lists.proofs.Members.{select-append, select-yes, select-no, select-select}
+use Rattle.lists.proofs.Members.{select-select}
 use Rattle.rule.specs.Job.{Job, laxity}
 use Rattle.rule.specs.Grade.{graded, starting}
-use Rattle.board.specs.declared.Place.{Place}
 use Rattle.board.specs.declared.Board.{Board}
-use Rattle.board.specs.Limits.{longest-laxity, places-held, deepest}
-use Rattle.board.specs.Held.{slot-of, job-in, blank, used, held}
+use Rattle.board.specs.Limits.{longest-laxity, deepest}
+use Rattle.board.specs.Held.{slot-of, job-in, held}
+use Rattle.board.proofs.Walk.{place-at, place-held, jobs-passed, jobs-all}
 use Rattle.search.specs.Inner.Inside.{AllSeen, Start, first-bits, starting-so}
 use Rattle.search.proofs.Seeing.{JobSeen, seen-facts}
 use Rattle.search.proofs.Start.{starts-so, start-small, start-short}
-
--- the place i, and the jobs in the places before it
-abbrev pub place-at : Board → ℕ → Place
-place-at b i = getD (b .places) i blank
-
-abbrev pub jobs-to : Board → ℕ → List Job
-jobs-to b i = map job-in (take i (b .places))
 
 -- a job's grade starts so; and its laxity is l or less
 abbrev pub starts-in : Board → (start left : ℕ) → Job → Bool
@@ -37,45 +26,10 @@ starts-in b start left = graded (b .depth) (first-bits (b .depth) start left)
 abbrev pub within : Board → (start left l : ℕ) → Job → Bool
 within b start left l r = starts-in b start left r && leb (laxity (slot-of b) r) l
 
--- all jobs passed
-pub starts-all : (b : Board) (start left i : ℕ) → i ≡ b .count → select (starts-in b start left) (jobs-to b i) ≡ starting-so b start left
-unfolding starting held used
-starts-all b start left i e = ap (λ n. select (starts-in b start left) (jobs-to b n)) e
-
-pub within-all : (b : Board) (start left l i : ℕ) → i ≡ b .count
-    → select (within b start left l) (jobs-to b i) ≡ select (λ r. leb (laxity (slot-of b) r) l) (starting-so b start left)
-within-all b start left l i e =
-    sym (select-select (λ r. leb (laxity (slot-of b) r) l) (starts-in b start left) (jobs-to b i))
-    ∙ ap (select (λ r. leb (laxity (slot-of b) r) l)) (starts-all b start left i e)
-
-take-mem : {A : Type 0} (l : List A) (n i : ℕ) (d : A) → i < n → i < length l → List·Memᴰ (getD l i d) (take n l)
-take-mem [] n i d h k = absurd (omega arith)
-take-mem (a ∷ l) zero i d h k = absurd (omega arith)
-take-mem (a ∷ l) (suc n) zero d h k = List·Memᴰ·head refl
-take-mem (a ∷ l) (suc n) (suc i) d h k = List·Memᴰ·tail (take-mem l n i d (omega arith) (omega arith))
-
--- a count past the places is no more than all of them
-pub jobs-all : (b : Board) (i : ℕ) → length (b .places) ≡ places-held → i ≡ min (b .count) places-held → jobs-to b i ≡ held b
-unfolding held used
-jobs-all b i n e =
-    ⊎-elim (λ (h : b .count ≤ places-held). let k : i ≡ b .count = omega arith in ap (jobs-to b) k)
-    (λ (h : places-held < b .count). ap (map job-in) (take-all i (b .places) (omega arith) ∙ sym (take-all (b .count) (b .places) (omega arith))))
-    (cmp (b .count) places-held)
-
--- one job more, which passes a test or not
-module _ (b : Board) (i : ℕ) (there : i < length (b .places)) (p : Job → Bool) where
-  jobs-more : select p (jobs-to b (i + 1)) ≡ select p (jobs-to b i) ++ select p (job-in (place-at b i) ∷ [])
-  jobs-more =
-      rw (add-one, take-suc (b .places) i blank there, map-append job-in (take i (b .places)) (place-at b i ∷ []))
-      (select-append p (jobs-to b i) (job-in (place-at b i) ∷ []))
-
-  pub one-more : p (job-in (place-at b i)) ≡ true → select p (jobs-to b (i + 1)) ≡ select p (jobs-to b i) ++ (job-in (place-at b i) ∷ [])
-  unfolding select
-  one-more e = jobs-more ∙ ap (λ k. select p (jobs-to b i) ++ k) (select-yes p (job-in (place-at b i)) [] e)
-
-  pub none-more : p (job-in (place-at b i)) ≡ false → select p (jobs-to b (i + 1)) ≡ select p (jobs-to b i)
-  unfolding select
-  none-more e = jobs-more ∙ ap (λ k. select p (jobs-to b i) ++ k) (select-no p (job-in (place-at b i)) [] e) ∙ append-nil (select p (jobs-to b i))
+-- the jobs of the board that are so
+pub within-held : (b : Board) (start left l : ℕ) → select (within b start left l) (held b) ≡ select (λ r. leb (laxity (slot-of b) r) l) (starting-so b start left)
+unfolding starting
+within-held b start left l = sym (select-select (λ r. leb (laxity (slot-of b) r) l) (starts-in b start left) (held b))
 
 -- on a board whose jobs are all seen
 module _ (b : Board) (s : AllSeen b) where
@@ -87,14 +41,25 @@ module _ (b : Board) (s : AllSeen b) where
   unfolding deepest
   next-byte start left fits = omega (arith, pow-mono {i = b .depth} {j = deepest} (s .shallow), start-small (b .depth) left start fits)
 
+  -- once all of them are looked at
+  module _ (i : ℕ) (e : i ≡ b .count) where
+    all-passed : (test : Job → Bool) → jobs-passed b test i ≡ select test (held b)
+    all-passed test = jobs-all b test i (omega (arith, s .full, s .counted))
+
+    pub starts-all : (start left : ℕ) → jobs-passed b (starts-in b start left) i ≡ starting-so b start left
+    unfolding starting
+    starts-all start left = all-passed (starts-in b start left)
+
+    pub within-all : (start left l : ℕ) → jobs-passed b (within b start left l) i ≡ select (λ r. leb (laxity (slot-of b) r) l) (starting-so b start left)
+    within-all start left l = all-passed (within b start left l) ∙ within-held b start left l
+
   -- at one of its jobs
   module _ (i : ℕ) (h : i < b .count) where
     pub place-there : i < length (b .places)
     place-there = omega (arith, s .full, s .counted)
 
     pub place-mem : List·Memᴰ (job-in (place-at b i)) (held b)
-    unfolding held used
-    place-mem = Memᴰ·map job-in (take-mem (b .places) (b .count) i blank h place-there)
+    place-mem = place-held b i h place-there
 
     pub place-seen : JobSeen (slot-of b) (b .depth) (job-in (place-at b i))
     place-seen = seen-facts _ _ _ (s .each (job-in (place-at b i)) place-mem)

@@ -6,10 +6,11 @@ ghost use mathlib.Core.Path.{_≡_};
 ghost use Rattle.rule.specs.Bake.{ticket-of, grade-of};
 ghost use Rattle.search.specs.Inner.Seen.{bakes-seen};
 use board::Board;
+use thinning::Kept;
 
 mod descent;
-mod seen;
 mod soonest;
+pub mod thinning;
 mod tight;
 mod within;
 
@@ -29,7 +30,8 @@ pub fn bake(b: Board) -> Baked
             grade: 0,
         };
     }
-    let s = seen::only_seen(b);
+    let now = b.slot;
+    let s = thinning::thinned(b, now, Kept::Seen);
     let grade = descent::descend(s, 0, s.depth);
     let l = tight::tight(s, grade, 0);
     soonest::soonest(s, grade, 0, l)

@@ -5,19 +5,20 @@ use mathlib.Core.List.{map, List·Memᴰ}
 use Prim.Native.Nat.{ℕ, suc, _-_, _≤_}
 use native.Mathlib.Omega.{arith}
 use lib.Dec.{eqb}
-use lib.ListN.{length, take, replicate, length-append, length-replicate, length-take}
+use lib.ListN.{length, replicate}
 use lib.Seq.{drop-append-seam}
 use Rattle.lists.specs.Select.{select}
 use Rattle.lists.specs.Rise.{rise, never-fall}
 use Rattle.lists.proofs.Tests.{and-right}
 use Rattle.lists.proofs.Members.{select-mem}
-use Rattle.lists.proofs.Counting.{count-select, count-length, count-mono, count-in-selection}
+use Rattle.lists.proofs.Counting.{count-mono, count-in-selection}
 use Rattle.rule.specs.Job.{Job}
 use Rattle.board.specs.declared.Board.{Board}
 use Rattle.board.specs.Limits.{most-in-slot, places-held, last-slot}
-use Rattle.board.specs.Held.{slot-of, job-in, blank, used, held, passing, thinned}
+use Rattle.board.specs.Held.{slot-of, blank, held, passing, thinned}
 use Rattle.lists.proofs.Parts.{rise-select, never-fall-select, replicate-mem}
 use Rattle.board.proofs.Soundness.Facts.{JobFacts, SoundFacts, admitted-in}
+use Rattle.board.proofs.Thinning.{passing-few, thinned-full}
 use Rattle.board.proofs.Calls.HeldAfter.{held-thinned}
 
 module _ (b : Board) (f : SoundFacts b) (k : ℕ) (test : Job → Bool) (later : slot-of b ≤ k) (last : k ≤ suc last-slot)
@@ -30,15 +31,7 @@ module _ (b : Board) (f : SoundFacts b) (k : ℕ) (test : Job → Bool) (later :
   stayed r m = select-mem test r (held b) (subst (List·Memᴰ r) jobs m)
 
   few : length (passing b test) ≤ places-held
-  unfolding passing used
-  few =
-      omega (
-        arith,
-        f .counted,
-        length-take (b .count) (b .places),
-        count-select (λ x. test (job-in x)) (take (b .count) (b .places)),
-        count-length (λ x. test (job-in x)) (take (b .count) (b .places)),
-      )
+  few = omega (arith, f .counted, passing-few b test)
 
   fits : (r : Job) → List·Memᴰ r (held (thinned b k test)) → JobFacts (thinned b k test) r
   unfolding thinned
@@ -69,7 +62,7 @@ module _ (b : Board) (f : SoundFacts b) (k : ℕ) (test : Job → Bool) (later :
   after-thinning =
       let ps = passing b test in
       record {
-        full = omega (arith, few, length-append ps (replicate (places-held - length ps) blank), length-replicate (places-held - length ps) blank);
+        full = thinned-full b k test few;
         shallow = f .shallow;
         from-first = omega (arith, f .from-first);
         to-last = last;

@@ -2,7 +2,7 @@
 use mathlib.Core.Path.{_≡_, refl, sym, ap, _∙_}
 use mathlib.Core.Bool.{Bool, true, false}
 use mathlib.Core.Logic.{_⊎_, inl, inr}
-use mathlib.Core.List.{List, [], _∷_, map, List·Memᴰ, List·Memᴰ·head, List·Memᴰ·tail}
+use mathlib.Core.List.{List, [], _∷_, map}
 use Prim.Native.Nat.{ℕ, zero, suc, _≤_, _<_}
 use native.Mathlib.Omega.{arith}
 use lib.Dec.{leb, eqb}
@@ -17,6 +17,7 @@ use Rattle.rule.specs.Job.{Job}
 use Rattle.board.specs.declared.Board.{Board}
 use Rattle.board.specs.Held.{slot-of, blank, job-in, used, held, in-slot}
 use Rattle.board.specs.Sound.{sound}
+use Rattle.board.proofs.Walk.{place-held}
 use Rattle.board.proofs.Soundness.Facts.{admitted-in}
 use Rattle.board.proofs.Soundness.Apart.{facts}
 use Rattle.board.proofs.Soundness.HeldCount.{held-count}
@@ -38,11 +39,6 @@ module _ (b : Board) (n : ℕ) where
   pub before-no-more : (getD (b .places) n blank .admitted .0 ≡ slot-of b → ⊥) → in-slot-before b (suc n) ≡ 0
   unfolding in-slot-before
   before-no-more e = cond-false same _ _ (ne-eqb _ _ e)
-
-member-at : {A : Type 0} (k : ℕ) (d : A) (l : List A) → k < length l → List·Memᴰ (getD l k d) l
-member-at k d [] h = absurd (omega arith)
-member-at zero d (a ∷ l) h = List·Memᴰ·head refl
-member-at (suc k) d (a ∷ l) h = List·Memᴰ·tail (member-at k d l (omega arith))
 
 -- where admitted slots never fall, a job admitted before a slot has only such jobs before it
 before : (m k now : ℕ) (d : Job) (A : List Job) → never-fall m (map (λ (r : Job). r .admitted) A) ≡ true → k < length A → getD A k d .admitted < now
@@ -97,7 +93,7 @@ module _ (b : Board) (s : sound b ≡ true) where
       let r = getD (held b) k (job-in blank) in
       let then : r .admitted ≡ getD (b .places) k blank .admitted .0 = ap (λ (q : Job). q .admitted) (job-at k h) in
       let inside : k < length (held b) = omega (arith, jobs) in
-      let begun : r .admitted ≤ slot-of b = f .each r (member-at k (job-in blank) (held b) inside) .begun in
+      let begun = f .each _ (place-held b k h (omega (arith, f .full, f .counted))) .begun in
       before 1 k (slot-of b) (job-in blank) (held b) (f .slots-in-order) inside (omega arith) .1
 
   -- so the count from the end is the count

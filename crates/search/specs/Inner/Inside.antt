@@ -10,7 +10,7 @@ use Rattle.rule.specs.Grade.{bits, starting}
 use Rattle.board.specs.declared.Board.{Board}
 use Rattle.board.specs.Limits.{places-held, deepest}
 use Rattle.board.specs.Held.{slot-of, held}
-use Rattle.search.specs.Inner.Seen.{seen-job, seen}
+use Rattle.search.specs.Inner.Seen.{seen-job}
 
 -- every job of the board is seen
 pub record AllSeen (b : Board) : Type 0 where
@@ -18,13 +18,6 @@ pub record AllSeen (b : Board) : Type 0 where
   pub shallow : b .depth ≤ deepest
   pub counted : b .count ≤ places-held
   pub each : (r : Job) → List·Memᴰ r (held b) → seen-job (slot-of b) (b .depth) r ≡ true
-
--- s is the board b with the jobs that are seen and no other
-pub record SeenOf (b s : Board) : Type 0 where
-  pub depth : s .depth ≡ b .depth
-  pub slot : slot-of s ≡ slot-of b
-  pub jobs : held s ≡ seen b
-  pub all-seen : AllSeen s
 
 -- a grade of depth d can start with the number `start`, with `left` bits left
 abbrev pub Start : (d start left : ℕ) → Type 0

@@ -1,26 +1,25 @@
 -- `search::soonest::soonest`: best is the place of the soonest of the jobs passed that are within. Assumes nothing.
-use Prim.Native.Nat.{_-_, _≤_, _<_}
+use Prim.Native.Nat.{_-_, _≤_}
 use mathlib.Core.Path.{sym, ap, _∙_}
 use mathlib.Core.Logic.{⊎-elim}
 use native.Mathlib.Omega.{arith}
 use borrow.Author.Needs.{needs}
-use Rattle.lists.specs.Select.{select}
 use Rattle.rule.specs.Bake.{soonest, ticket-of, grade-of}
 use Rattle.board.specs.Limits.{places-held}
-use Rattle.search.proofs.Walk.{place-at, jobs-to, within, within-all, place-there, place-asks, place-ticket, place-within, one-more, none-more}
+use Rattle.board.proofs.Walk.{jobs-passed, jobs-none, jobs-same, jobs-more}
+use Rattle.search.proofs.Walk.{within, within-all, place-there, place-asks, place-ticket, place-within}
 use Rattle.search.proofs.Earlier.{Found, found-none, found-more, found-ticket, found-grade}
 use Rattle.search.proofs.soonest.soonest.Statement.{statement}
 use Rattle.search.proofs.soonest.soonest.Tie as tie
 
 abbrev Inv-loop : tie.InvT-loop
-Inv-loop start left l b count now best₀ i₀ best i = (i ≤ b .count) × Found (select (within b start left (l .0)) (jobs-to b i)) best
+Inv-loop start left l b count now best₀ i₀ best i = (i ≤ b .count) × Found (jobs-passed b (within b start left (l .0)) i) best
 
 abbrev μ-loop : tie.MeasureT-loop
 μ-loop start left l b count now best₀ i₀ best i = b .count - i
 
 loop-holds : tie.Need-loop-holds Inv-loop μ-loop
-unfolding select
-loop-holds c = (omega arith, found-none)
+loop-holds c = (omega arith, rw jobs-none found-none)
 
 mul-p : tie.Need-mul-p Inv-loop μ-loop
 unfolding places-held
@@ -31,10 +30,7 @@ unfolding places-held
 element-copy-out-p c = omega arith
 
 is-within-requires : tie.Need-is-within-requires Inv-loop μ-loop
-is-within-requires c κs =
-    let k = c .before .before in
-    let s = k .before .before in
-    place-asks (s .args .t1) (s .pre .0) (k .loop .i) (omega arith) (s .args .start) (s .args .left) (s .pre .1)
+is-within-requires c κs = let s = c .before .before .before .before in place-asks _ (s .pre .0) _ (c .before .loop-test .taken) _ _ (s .pre .1)
 
 take-sooner-requires : tie.Need-take-sooner-requires Inv-loop μ-loop
 take-sooner-requires c κs = search needs
@@ -51,25 +47,23 @@ loop-again c =
     let k = c .before .before .before .before in
     let s = k .before .before in
     let a = s .args in
-    let b = a .t1 in
-    let i = k .loop .i in
-    let p = within b (a .start) (a .left) (a .l .0) in
-    let h : i < b .count = omega arith in
-    let there = place-there b (s .pre .0) i h in
-    let e = place-within b (s .pre .0) i h (a .start) (a .left) (a .l .0) (s .pre .1) ∙ sym (c .before .is-within .ensures) in
+    let p = within (a .t1) (a .start) (a .left) (a .l .0) in
+    let h = c .before .before .before .loop-test .taken in
+    let there = place-there _ (s .pre .0) _ h in
+    let e = place-within _ (s .pre .0) _ h _ _ _ (s .pre .1) ∙ sym (c .before .is-within .ensures) in
     ⊎-elim
     (λ w. (
       omega arith,
-      rw (one-more b i there p (e ∙ w .0 .taken), w .2, w .1 .ensures)
-          (found-more (place-at b i) (k .loop .inv .1) (place-ticket b (s .pre .0) i h)),
+      rw (jobs-more (a .t1) p (k .loop .i) there (e ∙ w .0 .taken), w .2, w .1 .ensures) (found-more _ (k .loop .inv .1) (place-ticket _ (s .pre .0) _ h)),
     ))
-    (λ w. (omega arith, rw (none-more b i there p (e ∙ w .0 .left), w .1) (k .loop .inv .1)))
+    (λ w. (omega arith, rw (jobs-same (a .t1) p (k .loop .i) there (e ∙ w .0 .left), w .1) (k .loop .inv .1)))
     (c .if1 .came)
 
 returns : tie.Need-returns Inv-loop μ-loop
 returns c =
-    let a = c .before .before .before .args in
-    let e = within-all (a .t1) (a .start) (a .left) (a .l .0) (c .before .loop .i) (omega arith) in
+    let s = c .before .before .before in
+    let a = s .args in
+    let e = within-all (a .t1) (s .pre .0) (c .before .loop .i) (omega arith) (a .start) (a .left) (a .l .0) in
     let f = c .before .loop .inv .1 in
     (found-ticket f ∙ ap (λ L. ticket-of (soonest L)) e, found-grade f ∙ ap (λ L. grade-of (soonest L)) e)
 

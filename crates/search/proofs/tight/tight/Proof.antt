@@ -7,21 +7,21 @@ use borrow.Author.Needs.{needs}
 use lib.IntN.{pos, _-ℤ_}
 use mir.Syntax.{w32}
 use mir.Facts.{toZ-ofZ}
-use Rattle.lists.specs.Select.{select}
 use Rattle.rule.specs.Job.{laxity}
 use Rattle.rule.specs.Tight.{excess}
 use Rattle.rule.proofs.NoRegret.Within.{mem-starting}
 use Rattle.board.specs.Limits.{longest-laxity, places-held}
 use Rattle.board.specs.Held.{slot-of, job-in}
 use Rattle.search.specs.Inner.Inside.{first-bits, starting-so}
-use Rattle.search.proofs.Walk.{place-at, jobs-to, starts-in, starts-all, few-left, place-there, place-mem, place-in-date, place-seen, place-starts, one-more, none-more}
+use Rattle.board.proofs.Walk.{place-at, jobs-passed, jobs-none, jobs-same, jobs-more}
+use Rattle.search.proofs.Walk.{starts-in, starts-all, few-left, place-there, place-mem, place-in-date, place-seen, place-starts}
 use Rattle.search.proofs.BestLaxity.{BestOf, none-yet, best-more, best-all}
 use Rattle.search.proofs.tight.tight.Statement.{statement}
 use Rattle.search.proofs.tight.tight.Tie as tie
 
 abbrev Inv-loop : tie.InvT-loop
 Inv-loop start left b count now best₀ i₀ best i =
-    (i ≤ b .count) × BestOf (slot-of b) (starting-so b start left) (select (starts-in b start left) (jobs-to b i)) best
+    (i ≤ b .count) × BestOf (slot-of b) (starting-so b start left) (jobs-passed b (starts-in b start left) i) best
 
 abbrev μ-loop : tie.MeasureT-loop
 μ-loop start left b count now best₀ i₀ best i = b .count - i
@@ -30,8 +30,8 @@ cast-t13 : tie.Need-cast-t13 Inv-loop μ-loop
 cast-t13 c = search needs
 
 loop-holds : tie.Need-loop-holds Inv-loop μ-loop
-unfolding select longest-laxity
-loop-holds c = (omega arith, none-yet refl refl refl)
+unfolding longest-laxity
+loop-holds c = (omega arith, none-yet (jobs-none _ _) refl refl)
 
 mul-p : tie.Need-mul-p Inv-loop μ-loop
 unfolding places-held
@@ -98,19 +98,20 @@ loop-again c =
     let m = mem-starting (b .depth) (first-bits (b .depth) (a .start) (a .left)) (place-mem b (s .pre .0) i h) g in
     let few : l .0 ≤ longest-laxity = omega (arith, place-seen b (s .pre .0) i h .short) in (
       omega arith,
-      rw (one-more b i there p g, w .5, w .4 .ensures, toZ-ofZ {w = w32} {z = x} (record { sfits = w .3 .ok }))
+      rw (jobs-more b p i there g, w .5, w .4 .ensures, toZ-ofZ {w = w32} {z = x} (record { sfits = w .3 .ok }))
           (best-more (slot-of b) A r m l is x of few (k .loop .inv .1)),
     ))
-    (λ w. (omega arith, rw (none-more b i there p (e ∙ w .0 .left), w .1) (k .loop .inv .1)))
+    (λ w. (omega arith, rw (jobs-same b p i there (e ∙ w .0 .left), w .1) (k .loop .inv .1)))
     (c .if1 .came)
 
 returns : tie.Need-returns Inv-loop μ-loop
 returns c =
-    let a = c .before .before .before .before .args in
+    let s = c .before .before .before .before in
+    let a = s .args in
     let b = a .t1 in
     let k = c .before .before in
     let A = starting-so b (a .start) (a .left) in
-    best-all (subst (λ L. BestOf (slot-of b) A L (k .loop .best)) (starts-all b (a .start) (a .left) (k .loop .i) (omega arith)) (k .loop .inv .1))
+    best-all (subst (λ L. BestOf (slot-of b) A L (k .loop .best)) (starts-all b (s .pre .0) (k .loop .i) (omega arith) (a .start) (a .left)) (k .loop .inv .1))
 
 pub tight-spec : {M : Type 1} → statement M
 tight-spec =
