@@ -17,11 +17,13 @@ use Rattle.board.specs.Limits.{places-held, deepest}
 use Rattle.board.specs.Held.{slot-of, held, passing, thinned}
 use Rattle.board.proofs.Thinning.{passing-few, thinned-full}
 use Rattle.board.proofs.Calls.HeldAfter.{held-thinned}
-use Rattle.search.specs.declared.thinning.Kept.the-variants.{Seen}
-use Rattle.search.specs.Inner.Seen.{seen-job, seen, bakes-seen}
-use Rattle.search.specs.Inner.Kept.{keeps}
+use Rattle.thinning.specs.declared.Kept.the-variants.{Seen}
+use Rattle.thinning.specs.Kept.{seen-job}
+use Rattle.search.specs.Inner.Seen.{seen, bakes-seen}
+use Rattle.thinning.specs.Kept.{keeps}
 use Rattle.search.specs.Inner.Inside.{AllSeen}
-use Rattle.search.proofs.Seeing.{facts-seen, member-seen, none-seen}
+use Rattle.thinning.proofs.Seeing.{facts-seen}
+use Rattle.search.proofs.Seeing.{member-seen, none-seen}
 
 unfoldable pub only-seen : Board → Board
 only-seen b = thinned b (slot-of b) (keeps Seen (slot-of b) (b .depth))

@@ -1,73 +1,16 @@
--- What it says of a job to be seen.
-use mathlib.Core.Path.{_≡_, refl, sym}
-use mathlib.Core.Bool.{true, false}
-use mathlib.Core.Logic.{_⊎_, inl, inr}
-use mathlib.Core.List.{List, [], _∷_, List·Memᴰ, List·Memᴰ·head, List·Memᴰ·tail}
-use Prim.Native.Nat.{ℕ, _/_, _^_, _≤_, _<_}
-use native.Mathlib.Nat.{div-eq-of-lt, lt-div-mul-add}
+-- The jobs of a board that are seen.
+use mathlib.Core.Path.{_≡_, refl}
+use mathlib.Core.List.{List, [], _∷_, List·Memᴰ, List·Memᴰ·head}
+use Prim.Native.Nat.{_<_}
 use native.Mathlib.Omega.{arith}
-use lib.Dec.{eqb}
-use lib.Pow.{pow-pos}
-use borrow.Author.Tests.{leb-true, le-leb, ltb-true, lt-ltb, eqb-true, eq-eqb}
-use Rattle.lists.specs.Select.{every}
-use Rattle.lists.proofs.Tests.{test, same-test}
-use Rattle.lists.proofs.Members.{every-mem, select-mem}
-use Rattle.rule.specs.Job.{Job, laxity, in-date}
+use Rattle.lists.proofs.Members.{select-mem}
+use Rattle.rule.specs.Job.{Job}
 use Rattle.board.specs.declared.Board.{Board}
-use Rattle.board.specs.Limits.{longest-laxity, deepest}
+use Rattle.board.specs.Limits.{deepest}
 use Rattle.board.specs.Held.{slot-of, held}
-use Rattle.search.specs.Inner.Seen.{seen-job, seen}
-
-pub record JobSeen (now d : ℕ) (r : Job) : Type 0 where
-  pub shallow : d ≤ deepest
-  pub ticketed : 1 ≤ r .ticket
-  pub in-date : now ≤ r .last
-  pub short : laxity now r ≤ longest-laxity
-  pub graded : r .grade < 2 ^ d
-
-pub seen-facts : (now d : ℕ) (r : Job) → seen-job now d r ≡ true → JobSeen now d r
-unfolding seen-job in-date
-seen-facts now d r h =
-    record {
-      shallow = leb-true _ _ (every-mem _ h (List·Memᴰ·head refl));
-      ticketed = leb-true _ _ (every-mem _ h (List·Memᴰ·tail (List·Memᴰ·head refl)));
-      in-date = leb-true _ _ (every-mem _ h (List·Memᴰ·tail (List·Memᴰ·tail (List·Memᴰ·head refl))));
-      short = leb-true _ _ (every-mem _ h (List·Memᴰ·tail (List·Memᴰ·tail (List·Memᴰ·tail (List·Memᴰ·head refl)))));
-      graded = ltb-true _ _ (every-mem _ h (List·Memᴰ·tail (List·Memᴰ·tail (List·Memᴰ·tail (List·Memᴰ·tail (List·Memᴰ·head refl))))));
-    }
-
-pub facts-seen : (now d : ℕ) (r : Job) → JobSeen now d r → seen-job now d r ≡ true
-unfolding seen-job in-date every
-facts-seen now d r f =
-    simp (
-      le-leb d deepest (f .shallow),
-      le-leb 1 (r .ticket) (f .ticketed),
-      le-leb now (r .last) (f .in-date),
-      le-leb (laxity now r) longest-laxity (f .short),
-      lt-ltb (r .grade) (2 ^ d) (f .graded),
-    )
-
--- a job that lacks a fact is not seen
-pub unseen : (now d : ℕ) (r : Job) → ¬ JobSeen now d r → false ≡ seen-job now d r
-unseen now d r n = go (test (seen-job now d r))
-  where
-    go : (seen-job now d r ≡ true) ⊎ (seen-job now d r ≡ false) → false ≡ seen-job now d r
-    go (inl h) = absurd (n (seen-facts now d r h))
-    go (inr h) = sym h
-
--- where the rest is known, the grade decides: it starts with no bits, all d of them left
-pub seen-by-grade : (now d : ℕ) (r : Job) → d ≤ deepest → 1 ≤ r .ticket → now ≤ r .last → laxity now r ≤ longest-laxity
-    → eqb (r .grade / 2 ^ d) 0 ≡ seen-job now d r
-seen-by-grade now d r shallow ticketed date short = same-test (eqb (r .grade / 2 ^ d) 0) (seen-job now d r) yes back
-  where
-    yes : eqb (r .grade / 2 ^ d) 0 ≡ true → seen-job now d r ≡ true
-    yes h =
-        let e = eqb-true (r .grade / 2 ^ d) 0 h in
-        let graded : r .grade < 2 ^ d = omega (arith, rw e at (lt-div-mul-add {a = r .grade} (pow-pos d))) in
-        facts-seen now d r (record { shallow = shallow; ticketed = ticketed; in-date = date; short = short; graded = graded })
-
-    back : seen-job now d r ≡ true → eqb (r .grade / 2 ^ d) 0 ≡ true
-    back h = eq-eqb (r .grade / 2 ^ d) 0 (div-eq-of-lt (seen-facts now d r h .graded))
+use Rattle.thinning.specs.Kept.{seen-job}
+use Rattle.thinning.proofs.Seeing.{JobSeen, seen-facts}
+use Rattle.search.specs.Inner.Seen.{seen}
 
 pub member-seen : (b : Board) (r : Job) → List·Memᴰ r (seen b) → JobSeen (slot-of b) (b .depth) r
 unfolding seen

@@ -16,7 +16,7 @@ use Rattle.board.specs.Limits.{longest-laxity, deepest}
 use Rattle.board.specs.Held.{slot-of, job-in, held}
 use Rattle.board.proofs.Walk.{place-at, place-held, jobs-passed, jobs-all}
 use Rattle.search.specs.Inner.Inside.{AllSeen, Start, first-bits, starting-so}
-use Rattle.search.proofs.Seeing.{JobSeen, seen-facts}
+use Rattle.thinning.proofs.Seeing.{JobSeen, seen-facts}
 use Rattle.search.proofs.Start.{starts-so, start-small, start-short}
 
 -- a job's grade starts so; and its laxity is l or less

@@ -10,7 +10,6 @@ use thinning::Kept;
 
 mod descent;
 mod soonest;
-pub mod thinning;
 mod tight;
 mod within;
 

@@ -10,7 +10,7 @@ use Rattle.rule.specs.Grade.{bits, starting}
 use Rattle.board.specs.declared.Board.{Board}
 use Rattle.board.specs.Limits.{places-held, deepest}
 use Rattle.board.specs.Held.{slot-of, held}
-use Rattle.search.specs.Inner.Seen.{seen-job}
+use Rattle.thinning.specs.Kept.{seen-job}
 
 -- every job of the board is seen
 pub record AllSeen (b : Board) : Type 0 where

@@ -10,13 +10,7 @@ use Rattle.rule.specs.Bake.{baked}
 use Rattle.board.specs.declared.Board.{Board}
 use Rattle.board.specs.Limits.{longest-laxity, deepest}
 use Rattle.board.specs.Held.{slot-of, held}
-
--- A job that could stand on a sound board of depth d in the slot `now`: 'depth is at most 3', 'Tickets are 32-bit numbers, 1 to 4,294,967,295',
--- 'present slot ≤ last slot', 'Longest wait 32', 'grades are below 2^D'.
-unfoldable pub seen-job : (now d : ℕ) → Job → Bool
-seen-job now d r =
-    every (λ (passed : Bool). passed)
-    (leb d deepest ∷ leb 1 (r .ticket) ∷ in-date now r ∷ leb (laxity now r) longest-laxity ∷ ltb (r .grade) (2 ^ d) ∷ [])
+use Rattle.thinning.specs.Kept.{seen-job}
 
 -- The jobs in the board's places that are seen; of a sound board all.
 unfoldable pub seen : Board → List Job

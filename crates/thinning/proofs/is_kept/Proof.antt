@@ -1,8 +1,8 @@
--- `search::thinning::is_kept`: the test of each variant. Assumes nothing.
+-- `thinning::is_kept`: the test of each variant. Assumes nothing.
 use borrow.Author.Needs.{needs}
-use Rattle.search.specs.Inner.Kept.{keeps}
-use Rattle.search.proofs.thinning.is_kept.Statement.{statement}
-use Rattle.search.proofs.thinning.is_kept.Tie as tie
+use Rattle.thinning.specs.Kept.{keeps}
+use Rattle.thinning.proofs.is_kept.Statement.{statement}
+use Rattle.thinning.proofs.is_kept.Tie as tie
 
 enum-told : tie.Need-enum-told
 enum-told c = search needs

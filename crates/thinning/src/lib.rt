@@ -1,12 +1,9 @@
-// A board thinned to some of its jobs. The search goes by the jobs that it sees of a board, sound or not: those that could stand on a sound board of its
-// depth in its slot. One walk takes the others off, so that the loops of the search, which look at each job many times, have no such test. A closing keeps
-// the jobs that stay for the next slot.
+// A board thinned to some of its jobs, in some slot: one walk along its places, whatever the jobs. The search goes by the jobs that it sees of a board,
+// sound or not: those that could stand on a sound board of its depth in its slot. A closing keeps the jobs that stay for the next slot.
 ghost use mathlib.Core.Path.{_≡_};
 ghost use Rattle.rule.specs.Bake.{stays as is-staying};
 ghost use Rattle.board.specs.Held.{slot-of, job-in, thinned as thinned-to};
-ghost use Rattle.search.specs.Inner.Seen.{seen-job};
-ghost use Rattle.search.specs.Inner.Kept.{keeps};
-use crate::within;
+ghost use Rattle.thinning.specs.Kept.{seen-job, keeps};
 use board::Board;
 use board::Place;
 use board::Slot;
@@ -36,7 +33,7 @@ fn is_seen(now: Slot, depth: u8, p: Place) -> bool
     if Board::LONGEST_LAXITY <= p.last.0 - now.0 {
         return false;
     }
-    within::starts_with(p, 0, depth)
+    (p.grade as u32) < Board::grades(depth)
 }
 
 // Whether a job stays for the slot after `now`.

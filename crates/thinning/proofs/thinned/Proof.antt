@@ -1,4 +1,4 @@
--- `search::thinning::thinned`: after i places the new ones begin with those among them whose jobs are kept. Assumes nothing.
+-- `thinning::thinned`: after i places the new ones begin with those among them whose jobs are kept. Assumes nothing.
 use mathlib.Core.Path.{sym, _∙_}
 use mathlib.Core.Logic.{⊎-elim}
 use Prim.Native.Nat.{_-_}
@@ -8,9 +8,9 @@ use Rattle.board.specs.Limits.{places-held}
 use Rattle.board.specs.Held.{slot-of}
 use Rattle.board.proofs.Known.{all-places}
 use Rattle.board.proofs.Thinning.{Thinning, thinning-none, thinning-same, thinning-more, thinning-all}
-use Rattle.search.specs.Inner.Kept.{keeps}
-use Rattle.search.proofs.thinning.thinned.Statement.{statement}
-use Rattle.search.proofs.thinning.thinned.Tie as tie
+use Rattle.thinning.specs.Kept.{keeps}
+use Rattle.thinning.proofs.thinned.Statement.{statement}
+use Rattle.thinning.proofs.thinned.Tie as tie
 
 abbrev Inv-loop : tie.InvT-loop
 Inv-loop slot kept b count now depth places₀ n₀ i₀ places n i = Thinning b (keeps kept (slot-of b) (b .depth)) count i n places
