@@ -1,4 +1,4 @@
--- The number of grades that `Board::grades` answers for a depth in its range.
+-- The number of grades that `Board::grade_count` answers for a depth in its range.
 use mathlib.Core.Path.{_≡_, ap}
 use Prim.Native.Nat.{ℕ, _^_, _≤_, min}
 use native.Mathlib.Omega.{arith}

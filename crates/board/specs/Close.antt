@@ -34,10 +34,10 @@ closed-with zero b o =
       refusal = 0;
       ticket = ticket-of o;
       grade = grade-of o;
-      expired = length (given-up-with b (ticket-of o));
+      listed = length (given-up-with b (ticket-of o));
       board = moved-on-with b (ticket-of o);
     }
-closed-with (suc n) b o = record { refusal = suc n; ticket = 0; grade = 0; expired = 0; board = b }
+closed-with (suc n) b o = record { refusal = suc n; ticket = 0; grade = 0; listed = 0; board = b }
 
 -- 'Closing a slot bakes that rack': the rule's
 unfoldable pub bakes : Board → Option Job

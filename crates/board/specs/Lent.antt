@@ -18,8 +18,8 @@ abbrev pub lent-of : (tickets grades slots : List ℕ) → Lent
 lent-of T G S = record { tickets = T; grades = G; slots = S }
 
 -- how many entries it has
-unfoldable pub entries : Lent → ℕ
-entries l = min (min (length (l .tickets)) (length (l .grades))) (length (l .slots))
+unfoldable pub entry-count : Lent → ℕ
+entry-count l = min (min (length (l .tickets)) (length (l .grades))) (length (l .slots))
 
 -- 'Given-up racks are written from the start of a list the caller lends [..] Their order is left open. Entries after them keep what they had.'
 -- Every job given up is listed once, and no other: the list begins with the jobs A in some order.
@@ -37,5 +37,5 @@ LentAfter (suc n) A before after = after ≡ before
 
 -- What a closing of the board b promises, with its list as it was before and is after: the answer, and the jobs given up in the list.
 pub record ClosedInto (b : Board) (before after : Lent) (r : Closed) : Type 0 where
-  pub answer : r ≡ closed b (entries before)
+  pub answer : r ≡ closed b (entry-count before)
   pub lent : LentAfter (r .refusal) (given-up b) before after

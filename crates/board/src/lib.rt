@@ -50,7 +50,7 @@ impl Board {
     pub const DEEPEST: u32 = 3;
 
     // The number of grades of a depth: 2^D. A depth above the greatest counts as the greatest.
-    pub fn grades(depth: u8) -> u32
+    pub fn grade_count(depth: u8) -> u32
         ensures { λ r. ⌜ r ≡ 2 ^ min depth deepest ⌝ }
     {
         if (depth as u32) < Board::DEEPEST {
@@ -107,7 +107,7 @@ pub struct Closed {
     pub refusal: u8,
     pub ticket: u32,
     pub grade: u8,
-    pub expired: u32,
+    pub listed: u32,
     pub board: Board,
 }
 

@@ -16,7 +16,7 @@ use Rattle.board.specs.declared.Closed.{Closed}
 use Rattle.board.specs.Limits.{places-held}
 use Rattle.board.specs.Rows.{close-rows}
 use Rattle.board.specs.Close.{bakes, close-number, given-up, closed-with, closed}
-use Rattle.board.specs.Lent.{Lent, lent-of, LentAfter, entries, ClosedInto}
+use Rattle.board.specs.Lent.{Lent, lent-of, LentAfter, entry-count, ClosedInto}
 use Rattle.boundary.specs.declared.entries.Entry.{Entry}
 use Rattle.boundary.specs.declared.entries.Parts.{Parts}
 use Rattle.boundary.specs.Listed.{EntriesAfter}
@@ -36,15 +36,15 @@ unfolding closed close-number close-rows
 closed-alike b lent = rw long-enough refl
 
 -- how many jobs an answer gives up, by its refusal
-all-expired : (n : ℕ) (b : Board) → closed-with n b (bakes b) .refusal ≡ 0 → closed-with n b (bakes b) .expired ≡ length (given-up b)
+all-listed : (n : ℕ) (b : Board) → closed-with n b (bakes b) .refusal ≡ 0 → closed-with n b (bakes b) .listed ≡ length (given-up b)
 unfolding closed-with given-up
-all-expired zero b e = refl
-all-expired (suc n) b e = absurd (omega (arith, e))
+all-listed zero b e = refl
+all-listed (suc n) b e = absurd (omega (arith, e))
 
-none-expired : (n k : ℕ) (b : Board) → closed-with n b (bakes b) .refusal ≡ suc k → closed-with n b (bakes b) .expired ≡ 0
+none-listed : (n k : ℕ) (b : Board) → closed-with n b (bakes b) .refusal ≡ suc k → closed-with n b (bakes b) .listed ≡ 0
 unfolding closed-with
-none-expired zero k b e = absurd (omega (arith, e))
-none-expired (suc n) k b e = refl
+none-listed zero k b e = absurd (omega (arith, e))
+none-listed (suc n) k b e = refl
 
 -- another order is as long
 same-lengthᴰ : {X A : List Job} → List·Permᴰ X A → length X ≡ length A
@@ -66,9 +66,9 @@ first n = lent-of (take n zeros) (take n zeros) (take n zeros)
 pub first-length : (n : ℕ) → n ≤ places-held → length (take n zeros) ≡ n
 first-length n few = length-take-le n zeros (omega (arith, length-replicate {A = ℕ} places-held 0))
 
-first-entries : (n : ℕ) → n ≤ places-held → entries (first n) ≡ n
-unfolding entries
-first-entries n few = omega (arith, first-length n few)
+first-count : (n : ℕ) → n ≤ places-held → entry-count (first n) ≡ n
+unfolding entry-count
+first-count n few = omega (arith, first-length n few)
 
 module _ (n : ℕ) (f : Job → ℕ) (X : List Job) where
   begins : (part : List ℕ) → part ≡ map f X ++ drop (length X) (take n zeros) → Begins f X (part ++ drop n zeros)
@@ -80,12 +80,12 @@ module _ (b : Board) (lent n : ℕ) (n-is : n ≡ min lent places-held) (after :
   parts = record { tickets = after .tickets ++ drop n zeros; grades = after .grades ++ drop n zeros; slots = after .slots ++ drop n zeros }
 
   by-refusal : (k : ℕ) → r .refusal ≡ k → LentAfter k (given-up b) (first n) after
-      → (r .expired ≤ n) × ((ys : List Entry) → length ys ≡ lent → EntriesAfter k (given-up b) ys (written ys parts (r .expired)))
+      → (r .listed ≤ n) × ((ys : List Entry) → length ys ≡ lent → EntriesAfter k (given-up b) ys (written ys parts (r .listed)))
   unfolding LentAfter EntriesAfter closed
   by-refusal zero e l =
       let X = l .order in
-      let count : r .expired ≡ length X = ap (λ (q : Closed). q .expired) (c .answer) ∙ all-expired _ b (sym (ap (λ (q : Closed). q .refusal) (c .answer)) ∙ e) ∙ sym (same-length (l .each-once)) in
-      let few : r .expired ≤ n = omega (arith, count, long, first-length n (omega arith), ap length (l .tickets), length-append (map (λ (j : Job). j .ticket) X) (drop (length X) (take n zeros)), length-map X (λ (j : Job). j .ticket)) in (
+      let count : r .listed ≡ length X = ap (λ (q : Closed). q .listed) (c .answer) ∙ all-listed _ b (sym (ap (λ (q : Closed). q .refusal) (c .answer)) ∙ e) ∙ sym (same-length (l .each-once)) in
+      let few : r .listed ≤ n = omega (arith, count, long, first-length n (omega arith), ap length (l .tickets), length-append (map (λ (j : Job). j .ticket) X) (drop (length X) (take n zeros)), length-map X (λ (j : Job). j .ticket)) in (
         few,
         λ ys h. record {
           order = X;
@@ -97,10 +97,10 @@ module _ (b : Board) (lent n : ℕ) (n-is : n ≡ min lent places-held) (after :
         },
       )
   by-refusal (suc k) e l =
-      let count : r .expired ≡ 0 = ap (λ (q : Closed). q .expired) (c .answer) ∙ none-expired _ k b (sym (ap (λ (q : Closed). q .refusal) (c .answer)) ∙ e) in
+      let count : r .listed ≡ 0 = ap (λ (q : Closed). q .listed) (c .answer) ∙ none-listed _ k b (sym (ap (λ (q : Closed). q .refusal) (c .answer)) ∙ e) in
       (omega arith, λ ys h. ap (written ys parts) count ∙ sym (written-none ys parts))
 
-  pub gathered : Gathered b lent (record { answer = r; count = r .expired; parts = parts })
+  pub gathered : Gathered b lent (record { answer = r; count = r .listed; parts = parts })
   gathered =
       let both = by-refusal (r .refusal) refl (c .lent) in
-      record { answer = c .answer ∙ ap (closed b) (first-entries n (omega arith) ∙ n-is) ∙ closed-alike b lent; few = omega (arith, both .0); room = omega (arith, both .0); listed = both .1 }
+      record { answer = c .answer ∙ ap (closed b) (first-count n (omega arith) ∙ n-is) ∙ closed-alike b lent; few = omega (arith, both .0); room = omega (arith, both .0); listed = both .1 }

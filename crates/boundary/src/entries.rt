@@ -41,7 +41,7 @@ fn closing(b: Board, lent: usize) -> ClosedParts
     let mut slots = [0u32; Board::PLACES];
     let n = lists::lesser(lent, Board::PLACES);
     let answer = calls::close::close(b, &mut tickets[..n], &mut grades[..n], &mut slots[..n]);
-    let count = answer.expired as usize;
+    let count = answer.listed as usize;
     let parts = Parts {
         tickets,
         grades,

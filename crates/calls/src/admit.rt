@@ -50,7 +50,7 @@ fn first_row(
     ensures { λ r. ⌜ r ≡ first-given (admit-rows (slot .0) highest taken depth ticket (laxity .0) grade) ⌝ }
 {
     let allowed = laxity_allowed(laxity);
-    let most = Board::grades(depth);
+    let most = Board::grade_count(depth);
     if slot.0 == Board::LAST_SLOT + 1 {
         return 3;
     }

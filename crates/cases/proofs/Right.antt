@@ -47,7 +47,7 @@ sound-right b s = Bool·beq (sound b) s
 -- an answer as its numbers, the refusal first
 unfoldable pub answer : Board → Call → List ℕ
 answer b (admit t w g) = let r = admitted b t w g in r .refusal ∷ r .last .0 ∷ []
-answer b (close lent) = let r = Close.closed b lent in r .refusal ∷ r .ticket ∷ r .grade ∷ r .expired ∷ []
+answer b (close lent) = let r = Close.closed b lent in r .refusal ∷ r .ticket ∷ r .grade ∷ r .listed ∷ []
 
 -- a closing's answer, and the jobs given up in the board's order
 unfoldable pub close-right : Board → List ℕ → List (List ℕ) → Bool

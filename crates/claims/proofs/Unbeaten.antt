@@ -31,7 +31,7 @@ demand3 b s empty cs =
     record {
       plan = subst (IsSchedule B) same (made-schedule (setting b every-beginning) B T our-rule (b .depth));
       totals = λ p P k h. subst (λ (o : Schedule). total B p k ≤ total B o k) same (ours-most (setting b every-beginning) B T k h p P);
-      grades = λ begins e j h r l u n k i.
+      by-grade = λ begins e j h r l u n k i.
           subst (λ (o : Schedule). count-of (b .depth) u B (made-by r (b .depth) B) k ≤ count-of (b .depth) u B o k) same
           (ours-at-least (setting b begins) B (book-tried b begins cs e) k i j h r l u n);
     }

@@ -31,7 +31,7 @@ pub record Unbeaten (b : Board) (cs : List Call) : Type 0 where
   pub totals : (p : Schedule) → IsSchedule (book-of b cs) p → (k : ℕ) → k ≤ slots-closed (book-of b cs)
       → total (book-of b cs) p k ≤ total (book-of b cs) (our-plan b cs) k
   -- 'on the list's day book, for every start of j bits and every k up to the slots closed, our board's count is at least that of every rival of level j'
-  pub grades : (begins : Beginning → Bool) → begins (book-of b cs .beginning) ≡ true → (j : ℕ) → j < b .depth
+  pub by-grade : (begins : Beginning → Bool) → begins (book-of b cs .beginning) ≡ true → (j : ℕ) → j < b .depth
       → (r : Rule) → Level (setting b begins) j r
       → (u : List Bool) → length u ≡ j → (k : ℕ) → k ≤ slots-closed (book-of b cs)
       → count-of (b .depth) u (book-of b cs) (made-by r (b .depth) (book-of b cs)) k ≤ count-of (b .depth) u (book-of b cs) (our-plan b cs) k

@@ -114,7 +114,7 @@ pub(crate) fn finish(state: State, out: &mut [u8], at: usize) -> usize
     if !day.opened {
         return after.at;
     }
-    let grades = Board::grades(day.board.depth) as usize;
+    let grades = Board::grade_count(day.board.depth) as usize;
     let tally = day.tally;
     answers::print_tally(tally, grades, out, after.at)
 }

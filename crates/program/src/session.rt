@@ -112,7 +112,7 @@ fn close_line(day: Day, tickets: &mut [u32], grades: &mut [u8], slots: &mut [u32
     if c.refusal != 0 {
         return refuse(day, c.refusal);
     }
-    let n = c.expired as usize;
+    let n = c.listed as usize;
     let old = day.tally;
     let baked = tally::count_baked(old, c.ticket, c.grade);
     let tally = tally::count_given_up(baked, &grades[..n]);

@@ -78,7 +78,7 @@ fn jobs_sound(b: Board) -> bool
 {
     let n = b.count;
     let slot = b.slot;
-    let grades = Board::grades(b.depth);
+    let grades = Board::grade_count(b.depth);
     let mut s = Seen {
         well: true,
         ticket: 0,

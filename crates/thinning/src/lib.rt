@@ -33,7 +33,7 @@ fn is_seen(now: Slot, depth: u8, p: Place) -> bool
     if Board::LONGEST_LAXITY <= p.last.0 - now.0 {
         return false;
     }
-    (p.grade as u32) < Board::grades(depth)
+    (p.grade as u32) < Board::grade_count(depth)
 }
 
 // Whether a job stays for the slot after `now`.

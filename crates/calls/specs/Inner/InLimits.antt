@@ -14,7 +14,7 @@ use Rattle.board.specs.Rows.{_if_, first-given, admit-rows, close-rows}
 use Rattle.board.specs.Held.{slot-of, blank}
 use Rattle.board.specs.Admit.{admitted-if}
 use Rattle.board.specs.Close.{given-up-with, closed-with}
-use Rattle.board.specs.Lent.{Lent, entries}
+use Rattle.board.specs.Lent.{Lent, entry-count}
 use Rattle.search.specs.Inner.Seen.{bakes-seen}
 use Rattle.soundness.specs.Inner.Walk.{in-limits}
 use Rattle.calls.specs.Inner.Closings.{LentInOrder}
@@ -54,7 +54,7 @@ closed-in-limits b lent = closed-with (close-number-in-limits b lent) b (bakes-s
 
 -- what such a closing promises, with its list as it was before and is after
 pub record ClosedInLimits (b : Board) (before after : Lent) (r : Closed) : Type 0 where
-  pub answer : r ≡ closed-in-limits b (entries before)
+  pub answer : r ≡ closed-in-limits b (entry-count before)
   pub order : LentInOrder (r .refusal) (given-up-with b (r .ticket)) before after
 
 -- what is known of a board and a job where no number is given

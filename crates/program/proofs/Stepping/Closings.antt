@@ -53,16 +53,16 @@ module _ (day : Day) (c : Closed) (e : c ≡ closed (day .board) places-held) wh
       ∙ sym (fed-append t first (given-up-events (given-up (day .board))))
       ∙ sym (rw (← e) (ap (fed t) (let-through (c .refusal) _ h))))
 
-  pub close-did : (T G : List ℕ) (y : Tally) → sound (day .board) ≡ true → c .refusal ≡ 0 → (n : Entered (day .board) (c .expired) T G)
-      → y ≡ fed (fed (day .tally) (baked-events (c .ticket) (c .grade))) (map (event given-up-kind) (take (c .expired) G))
+  pub close-did : (T G : List ℕ) (y : Tally) → sound (day .board) ≡ true → c .refusal ≡ 0 → (n : Entered (day .board) (c .listed) T G)
+      → y ≡ fed (fed (day .tally) (baked-events (c .ticket) (c .grade))) (map (event given-up-kind) (take (c .listed) G))
       → Did (step-close (session-of day) (day .board))
-      (record { day = open-day (c .board) y; answer = SlotClosed (day .board .slot) (c .ticket) (c .grade); listed = c .expired }) T G
+      (record { day = open-day (c .board) y; answer = SlotClosed (day .board .slot) (c .ticket) (c .grade); listed = c .listed }) T G
   unfolding session-of GoodDay answer-of
   close-did T G y s h n z =
       did-as (close-step h)
       (record {
         good = λ _. rw e (closed-sound (day .board) places-held s);
-        session = ap (open-session (c .board)) (z ∙ all-fed h (take (c .expired) G) (n .grades));
+        session = ap (open-session (c .board)) (z ∙ all-fed h (take (c .listed) G) (n .grades));
         few = n .few;
         answer = ap (λ (A : List Named). a-closing (record { slot = slot-of (day .board); baked = record { ticket = c .ticket; grade = c .grade }; given-up = A }))
             (jobs-named (given-up (day .board)) (n .tickets) (n .grades));

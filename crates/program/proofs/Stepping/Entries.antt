@@ -15,7 +15,7 @@ use Rattle.board.specs.Limits.{places-held}
 use Rattle.board.specs.Held.{slot-of, held}
 use Rattle.board.specs.Sound.{sound}
 use Rattle.board.specs.Close.{given-up-with, bakes, given-up, close-number, closed-with, closed}
-use Rattle.board.specs.Lent.{Lent, lent-of, entries}
+use Rattle.board.specs.Lent.{Lent, lent-of, entry-count}
 use Rattle.board.proofs.Soundness.Apart.{facts}
 use Rattle.board.proofs.Soundness.HeldCount.{held-count}
 use Rattle.lines.specs.Session.{named}
@@ -40,11 +40,11 @@ few-given-up b s =
     omega (arith, count-select p (held b), count-length p (held b), held-count b (omega (arith, f .full, f .counted)), f .counted)
 
 -- an answer that is no refusal says how many
-given-up-number : (b : Board) (lent : ℕ) (c : Closed) → c ≡ closed b lent → c .refusal ≡ 0 → c .expired ≡ length (given-up b)
+given-up-number : (b : Board) (lent : ℕ) (c : Closed) → c ≡ closed b lent → c .refusal ≡ 0 → c .listed ≡ length (given-up b)
 unfolding closed closed-with given-up
 given-up-number b lent c e h = rw e (go (close-number b lent) (rw e at h))
   where
-    go : (n : ℕ) → closed-with n b (bakes b) .refusal ≡ 0 → closed-with n b (bakes b) .expired ≡ length (given-up b)
+    go : (n : ℕ) → closed-with n b (bakes b) .refusal ≡ 0 → closed-with n b (bakes b) .listed ≡ length (given-up b)
     go zero h = refl
     go (suc n) h = absurd (omega arith)
 
@@ -61,17 +61,17 @@ pub record Entered (b : Board) (n : ℕ) (T G : List ℕ) : Type 0 where
   pub grades : take n G ≡ map (λ (r : Job). r .grade) (given-up b)
 
 pub entered : (b : Board) (before after : Lent) (c : Closed) → sound b ≡ true → ClosedInOrder b before after c → c .refusal ≡ 0
-    → Entered b (c .expired) (after .tickets) (after .grades)
+    → Entered b (c .listed) (after .tickets) (after .grades)
 unfolding LentInOrder
 entered b before after c s m h =
     let A = given-up b in
     let n = given-up-number b _ c (m .answer) h in
     let o : InOrder A before after = subst (λ (k : ℕ). LentInOrder k A before after) h (m .order) in
-    let t = begins (λ (r : Job). r .ticket) A _ (after .tickets) (c .expired) n (o .tickets) in
-    let g = begins (λ (r : Job). r .grade) A _ (after .grades) (c .expired) n (o .grades) in
+    let t = begins (λ (r : Job). r .ticket) A _ (after .tickets) (c .listed) n (o .tickets) in
+    let g = begins (λ (r : Job). r .grade) A _ (after .grades) (c .listed) n (o .grades) in
     record { few = omega (arith, n, few-given-up b s); in-tickets = t .0; in-grades = g .0; tickets = t .1; grades = g .1 }
 
 -- lists with an entry for each place
-pub entries-full : (T G S : List ℕ) → length T ≡ places-held → length G ≡ places-held → length S ≡ places-held → entries (lent-of T G S) ≡ places-held
-unfolding entries
-entries-full T G S t g s = rw (t, g, s) (omega arith)
+pub entry-count-full : (T G S : List ℕ) → length T ≡ places-held → length G ≡ places-held → length S ≡ places-held → entry-count (lent-of T G S) ≡ places-held
+unfolding entry-count
+entry-count-full T G S t g s = rw (t, g, s) (omega arith)

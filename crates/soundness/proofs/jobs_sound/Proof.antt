@@ -23,8 +23,8 @@ Inv-loop b n slot grades s₀ i₀ s i =
 abbrev μ-loop : tie.MeasureT-loop
 μ-loop b n slot grades s₀ i₀ s i = b .count - i
 
-grades-requires : tie.Need-grades-requires Inv-loop μ-loop
-grades-requires c κs = search needs
+grade-count-requires : tie.Need-grade-count-requires Inv-loop μ-loop
+grade-count-requires c κs = search needs
 
 loop-holds : tie.Need-loop-holds Inv-loop μ-loop
 unfolding nothing-seen used
@@ -59,7 +59,7 @@ loop-again c =
     let seen = c .seen-with .ensures in (
       omega arith,
       omega (arith, ap (λ (r : Seen). r .sharing) seen, sharing-most (l .loop .s) (getD (b .places) (l .loop .i) blank)),
-      walk-step b (l .loop .s) (c .seen-with .result) (g .grades .result) (l .loop .i) (g .grades .ensures ∙ grades-of _ (g .before .before .pre .0)) (omega arith) (omega arith) seen
+      walk-step b (l .loop .s) (c .seen-with .result) (g .grade-count .result) (l .loop .i) (g .grade-count .ensures ∙ grades-of _ (g .before .before .pre .0)) (omega arith) (omega arith) seen
           ∙ l .loop .inv .2,
     )
 
@@ -75,7 +75,7 @@ jobs-sound-spec =
     (tie.spec
     Inv-loop
     μ-loop
-    grades-requires
+    grade-count-requires
     loop-holds
     mul-x
     element-copy-out-x

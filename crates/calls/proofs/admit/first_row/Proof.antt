@@ -16,8 +16,8 @@ use Rattle.calls.proofs.admit.first_row.Tie as tie
 laxity-allowed-requires : tie.Need-laxity-allowed-requires
 laxity-allowed-requires c κs = search needs
 
-grades-requires : tie.Need-grades-requires
-grades-requires c κs = search needs
+grade-count-requires : tie.Need-grade-count-requires
+grade-count-requires c κs = search needs
 
 add-if1 : tie.Need-add-if1
 add-if1 c = search needs
@@ -86,7 +86,7 @@ first-row-spec =
     tie.close
     (tie.spec
     laxity-allowed-requires
-    grades-requires
+    grade-count-requires
     add-if1
     returns
     returns-2

@@ -61,12 +61,12 @@ shallow c =
     let l = at-last c .last-line in
     facts (l .result .day .board) (l .ensures .good (opened c)) .shallow
 
-grades-requires : tie.Need-grades-requires
-grades-requires c κs = search needs
+grade-count-requires : tie.Need-grade-count-requires
+grade-count-requires c κs = search needs
 
 -- as many grades as the board's depth has
-grades : (g : tie.After-grades) → g .grades .result ≡ 2 ^ (at-last (g .before) .last-line .result .day .board .depth)
-grades g = g .grades .ensures ∙ grades-of _ (shallow (g .before))
+grades : (g : tie.After-grade-count) → g .grade-count .result ≡ 2 ^ (at-last (g .before) .last-line .result .day .board .depth)
+grades g = g .grade-count .ensures ∙ grades-of _ (shallow (g .before))
 
 cast-grades : tie.Need-cast-grades
 cast-grades c = search needs
@@ -75,9 +75,9 @@ print-tally-requires : tie.Need-print-tally-requires
 print-tally-requires c κs = search needs
 
 -- the tally fits
-fits : (g : tie.After-grades) →
+fits : (g : tie.After-grade-count) →
     let r = at-last (g .before) in
-    tally-fits (g .grades .result) (r .last-line .result .at) (length (r .last-line .last .1 .0)) ≡ true
+    tally-fits (g .grade-count .result) (r .last-line .result .at) (length (r .last-line .last .1 .0)) ≡ true
 unfolding deepest
 fits g =
     let r = at-last (g .before) in
@@ -99,7 +99,7 @@ returns-2 c =
     let d = r .last-line .result .day in
     let m = machine-of (a .state) in
     let first = last-printed m in
-    let second = printed-tally (g .grades .result) 0 (d .tally) in
+    let second = printed-tally (g .grade-count .result) 0 (d .tally) in
     let e : printed-at-end m ≡ first ++ second =
     end-open m d (l .session) (opened (g .before)) ∙ ap (λ (n : ℕ). first ++ printed-tally n 0 (d .tally)) (sym (grades g))
     in
@@ -123,7 +123,7 @@ finish-spec =
     last-line-requires
     same-length
     returns
-    grades-requires
+    grade-count-requires
     cast-grades
     print-tally-requires
     same-length-2

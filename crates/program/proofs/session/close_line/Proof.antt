@@ -13,7 +13,7 @@ use Rattle.board.specs.Events.{given-up-kind, event, fed}
 use Rattle.calls.proofs.Closing.OnSound.{meets-on-sound}
 use Rattle.program.specs.Inner.Days.{GoodDay}
 use Rattle.program.proofs.Stepping.Steps.{did-as}
-use Rattle.program.proofs.Stepping.Entries.{Entered, entered, entries-full}
+use Rattle.program.proofs.Stepping.Entries.{Entered, entered, entry-count-full}
 use Rattle.program.proofs.Stepping.Closings.{close-refused, close-did}
 use Rattle.program.proofs.session.close_line.Statement.{statement}
 use Rattle.program.proofs.session.close_line.Tie as tie
@@ -30,14 +30,14 @@ board-sound s = s .pre .0 (s .pre .1 .0)
 closed-full : (k : tie.After-close-in-limits) → k .close-in-limits .result ≡ closed (entry k .args .day .board) places-held
 closed-full k =
     let p = entry k .pre .1 .1 in
-    meets-on-sound _ _ _ _ (board-sound (entry k)) (k .close-in-limits .ensures) .answer ∙ ap (closed (entry k .args .day .board)) (entries-full _ _ _ (p .0) (p .1) (p .2))
+    meets-on-sound _ _ _ _ (board-sound (entry k)) (k .close-in-limits .ensures) .answer ∙ ap (closed (entry k .args .day .board)) (entry-count-full _ _ _ (p .0) (p .1) (p .2))
 
 -- the closing of which it is known that it is no refusal
 abbrev closing : tie.Else1 → tie.After-close-in-limits
 closing e = e .before .before .before .before .before .before .before .before
 
 listed : (e : tie.Else1) → let k = closing e in
-    Entered (entry k .args .day .board) (k .close-in-limits .result .expired) (k .close-in-limits .last .1 .0) (k .close-in-limits .last .1 .1 .0)
+    Entered (entry k .args .day .board) (k .close-in-limits .result .listed) (k .close-in-limits .last .1 .0) (k .close-in-limits .last .1 .1 .0)
 listed e =
     let k = closing e in
     entered _ _ _ (k .close-in-limits .result) (board-sound (entry k)) (meets-on-sound _ _ _ _ (board-sound (entry k)) (k .close-in-limits .ensures)) (e .if1 .left)
@@ -91,7 +91,7 @@ returns-2 : tie.Need-returns-2
 returns-2 c =
     let e = c .before .before .before .before .before .before .before in
     let k = closing e in
-    let grades = take (k .close-in-limits .result .expired) (k .close-in-limits .last .1 .1 .0) in
+    let grades = take (k .close-in-limits .result .listed) (k .close-in-limits .last .1 .1 .0) in
     close-did _ (k .close-in-limits .result) (closed-full k) _ _ _ (board-sound (entry k)) (e .if1 .left) (listed e)
     (c .before .before .count-given-up .ensures ∙ ap (λ (t : Tally). fed t (map (event given-up-kind) grades)) (c .before .before .before .before .count-baked .ensures))
 

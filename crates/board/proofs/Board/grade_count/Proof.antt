@@ -1,4 +1,4 @@
--- `board::Board::grades`: one shifted left by the depth is a power of two, which fits. Assumes nothing.
+-- `board::Board::grade_count`: one shifted left by the depth is a power of two, which fits. Assumes nothing.
 use mathlib.Core.Path.{_≡_, ap, _∙_}
 use Prim.Native.Nat.{_^_, min}
 use native.Mathlib.Nat.{one-mul}
@@ -7,8 +7,8 @@ use lib.Dec.{lit<}
 use lib.Pow.{shl-exact}
 use borrow.Author.Needs.{needs}
 use Rattle.board.specs.Limits.{deepest}
-use Rattle.board.proofs.Board.grades.Statement.{statement}
-use Rattle.board.proofs.Board.grades.Tie as tie
+use Rattle.board.proofs.Board.grade_count.Statement.{statement}
+use Rattle.board.proofs.Board.grade_count.Tie as tie
 
 shl-result : tie.Need-shl-result
 shl-result c = search needs
@@ -27,5 +27,5 @@ returns-2 c =
     let e : deepest ≡ min d deepest = omega arith in
     ap (λ k. 2 ^ k) e
 
-pub grades-spec : {M : Type 1} → statement M
-grades-spec = tie.close (tie.spec shl-result returns returns-2)
+pub grade-count-spec : {M : Type 1} → statement M
+grade-count-spec = tie.close (tie.spec shl-result returns returns-2)
