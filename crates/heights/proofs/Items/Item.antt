@@ -5,7 +5,6 @@ use mathlib.Core.List.{List, [], _∷_, _++_}
 use Prim.Native.Nat.{ℕ, suc, _+_, _-_, _≤_, _<_, min}
 use native.Mathlib.Omega.{arith}
 use lib.Dec.{leb}
-use lib.ListN.{length}
 use Rattle.lists.proofs.Less.{Less, here, there}
 use Rattle.heights.proofs.Heights.Part.{Part, _⊕_, Same, Out}
 use Rattle.lists.specs.Select.{one-if}
@@ -14,10 +13,6 @@ use Rattle.lists.proofs.Counting.{one-leb}
 pub record Item : Type 0 where
   pub last : ℕ
   pub grade : List Bool
-
--- its grade has d bits
-abbrev pub Bits : ℕ → Item → Type 0
-Bits d p = length (p .grade) ≡ d
 
 -- how many have last slot at least s
 unfoldable pub count : List Item → ℕ → ℕ
@@ -79,10 +74,6 @@ part-out {n} {p} {A} {B} l h =
       rest = record { low = λ s i j. less-low l s j; high = λ s i j. less-high l s j };
     }
 
--- an item out of date does not matter
-pub part-expired : (n : ℕ) (p : Item) (A : List Item) → p .last < n → Same n (part (p ∷ A)) (part A)
-part-expired n p A h = record { is = λ s i. omega (arith, count-cons p A s) }
-
 unfoldable pub Each : (Item → Type 0) → List Item → Type 0
 Each P [] = Unit {0}
 Each P (p ∷ A) = P p × Each P A
@@ -91,8 +82,3 @@ pub each-append : (P : Item → Type 0) (A B : List Item) → Each P A → Each 
 unfolding Each
 each-append P [] B a b = b
 each-append P (p ∷ A) B a b = (a .0, each-append P A B (a .1) b)
-
-pub each-less : (P : Item → Type 0) {p : Item} {A B : List Item} → Each P A → Less p A B → P p
-unfolding Each
-each-less P e here = e .0
-each-less P e (there l) = each-less P (e .1) l

@@ -49,12 +49,3 @@ tight-run-same e (next T k s r) = next T k (tight-step-same e s) r
 pub schedule-same : {n : ℕ} {R S : Part} {fs : List Part} {ks : List ℕ} → Same n R S → Schedule n S fs ks → Schedule n R fs ks
 schedule-same e stop = stop
 schedule-same e (next T k s r) = next T k (any-step-same e s) r
-
--- a tight run is a schedule
-pub tight-schedule : {n : ℕ} {S : Part} {fs : List Part} {ks : List ℕ} → TightRun n S fs ks → Schedule n S fs ks
-tight-schedule stop = stop
-tight-schedule (next T k s r) = next T k (step s) (tight-schedule r)
-  where
-    step : {n k : ℕ} {S T : Part} → TightStep n S T k → AnyStep n S T k
-    step (rest z k) = rest k
-    step (take l p U o h) = take p o
