@@ -2,7 +2,7 @@
 use mathlib.Core.Path.{_≡_, refl, sym, ap, ap₂, _∙_, subst}
 use mathlib.Core.Bool.{Bool, true, false, _&&_, _||_, cond}
 use mathlib.Core.Logic.{_⊎_, inl, inr}
-use mathlib.Core.List.{List, [], _∷_, _++_, List·Memᴰ, List·Memᴰ·head, List·Memᴰ·tail, List·Memᴰ·cases-cons, List·Memᴰ·not-nil}
+use mathlib.Core.List.{List, [], _∷_, _++_, List·Memᴰ, List·Memᴰ·head, List·Memᴰ·tail, List·Memᴰ·cases-cons, List·Memᴰ·not-nil, List·Memᴰ·append-cases, List·Memᴰ·eq-of-singleton}
 use Prim.Native.Nat.{ℕ, _≤_}
 use lib.Dec.{leb}
 use borrow.Author.Tests.{le-leb}
@@ -133,3 +133,11 @@ select-all p (a ∷ l) f = ap₂ (λ b k. cond b (a ∷ k) k) (f a (List·Memᴰ
 -- a comparison that each member passes
 pub le-every : {A : Type 0} {f g : A → ℕ} (l : List A) → ((x : A) → List·Memᴰ x l → f x ≤ g x) → every (λ x. leb (f x) (g x)) l ≡ true
 le-every {f = f} {g = g} l h = mem-every _ l (λ x m. le-leb (f x) (g x) (h x m))
+
+-- what holds of each member and of one element more holds of each member of the longer list
+pub each-more : {A : Type 0} (P : A → Type 0) (l : List A) {a : A} → ((x : A) → List·Memᴰ x l → P x) → P a → (x : A) → List·Memᴰ x (l ++ (a ∷ [])) → P x
+each-more P l {a} f h x m =
+    elim (List·Memᴰ·append-cases l m) [
+      | inl k ↦ f x k
+      | inr k ↦ subst P (sym (List·Memᴰ·eq-of-singleton k)) h
+    ]

@@ -1,6 +1,6 @@
 -- What a rule's schedule bakes in the first k slots, counted off the jobs that it bakes.
 use mathlib.Core.Path.{_≡_, refl, sym, ap, _∙_}
-use mathlib.Core.Bool.{Bool, false, _&&_}
+use mathlib.Core.Bool.{Bool, true, false, _&&_}
 use mathlib.Core.Option.{Option, none, some}
 use mathlib.Core.List.{List, [], _∷_, map, List·Memᴰ, List·Memᴰ·head, List·Memᴰ·tail}
 use Prim.Native.Nat.{ℕ, zero, suc, _+_}
@@ -17,6 +17,7 @@ use Rattle.books.specs.Book.{Book, jobs}
 use Rattle.books.specs.Schedule.{gives, baked-in, from-slot}
 use Rattle.books.specs.Rule.{Rule, choices, made-by}
 use Rattle.books.specs.Rival.{Setting, Tried}
+use Rattle.books.proofs.Walks.Place.{start}
 use Rattle.books.proofs.Walks.Tickets.{Rising, rising-above, one-job}
 use Rattle.books.proofs.Walks.Left.{jobs-rising}
 use Rattle.books.proofs.Walks.Picks.{picks, picks-choices, picks-from}
@@ -36,6 +37,20 @@ unfoldable pub passes : (Job → Bool) → Option Job → Bool
 passes q none = false
 passes q (some r) = q r
 
+-- as a number
+pub one-none : (q : Job → Bool) {o : Option Job} → o ≡ none → one-if (passes q o) ≡ 0
+one-none q e = ap (λ (o : Option Job). one-if (passes q o)) e ∙ (unfold passes one-if in refl)
+
+pub one-some : (q : Job → Bool) {o : Option Job} {r : Job} → o ≡ some r → one-if (passes q o) ≡ one-if (q r)
+one-some q e = ap (λ (o : Option Job). one-if (passes q o)) e ∙ (unfold passes in refl)
+
+-- of a test that each job passes
+abbrev pub any : Job → Bool
+any r = true
+
+pub one-any : {o : Option Job} {r : Job} → o ≡ some r → one-if (passes any o) ≡ 1
+one-any e = one-some any e ∙ (unfold one-if in refl)
+
 -- how many of the first k do
 unfoldable pub tally : (Job → Bool) → List (Option Job) → ℕ → ℕ
 tally q os zero = 0
@@ -54,7 +69,7 @@ tally-last q [] (suc k) = refl
 tally-last q (o ∷ os) zero = omega (arith, tally-none q os)
 tally-last q (o ∷ os) (suc k) = omega (arith, tally-last q os k)
 
-pub getD-map-ticket : (os : List (Option Job)) (i : ℕ) → getD (map ticket-of os) i 0 ≡ ticket-of (getD os i none)
+getD-map-ticket : (os : List (Option Job)) (i : ℕ) → getD (map ticket-of os) i 0 ≡ ticket-of (getD os i none)
 unfolding ticket-of
 getD-map-ticket [] zero = refl
 getD-map-ticket [] (suc i) = refl
@@ -86,7 +101,18 @@ gives-job q J (some r) h f =
 
 -- the picks of a rule on a book
 abbrev pub picks-on : Rule → ℕ → Book → List (Option Job)
-picks-on q d B = picks q d (B .beginning) [] (B .beginning .slot) (B .beginning .jobs) (B .changes)
+picks-on q d B = picks q d (B .beginning) (start (B .beginning)) (B .changes)
+
+-- its tickets are those of the picks
+pub choices-at : (q : Rule) (d : ℕ) (B : Book) (k : ℕ)
+    → getD (choices q d (B .beginning) [] (B .beginning .slot) (B .beginning .jobs) (B .changes)) k 0 ≡ ticket-of (getD (picks-on q d B) k none)
+choices-at q d B k =
+    ap (λ (ts : List ℕ). getD ts k 0) (picks-choices q d (B .beginning) (start (B .beginning)) (B .changes)) ∙ getD-map-ticket (picks-on q d B) k
+
+-- a pick is a job of the book
+pub picked-job : (q : Rule) (d : ℕ) (B : Book) (k : ℕ) (r : Job) → getD (picks-on q d B) k none ≡ some r → List·Memᴰ r (jobs B)
+unfolding jobs
+picked-job q d B k r e = picks-from q d (B .beginning) (start (B .beginning)) (B .changes) r (getD-mem (picks-on q d B) k r e)
 
 pub baked-tally : (S : Setting) (B : Book) → Tried S B → (q : Rule) (d : ℕ) (test : Job → Bool) (k : ℕ)
     → baked-in test B (made-by q d B) k ≡ tally test (picks-on q d B) k
@@ -104,13 +130,11 @@ baked-tally S B T q d test (suc k) =
     ticket : made-by q d B (B .beginning .slot + k) ≡ ticket-of o
     ticket =
         unfold made-by in
-        (from-slot-at (B .beginning .slot) (choices q d (B .beginning) [] (B .beginning .slot) (B .beginning .jobs) (B .changes)) k
-        ∙ ap (λ (ts : List ℕ). getD ts k 0) (picks-choices q d (B .beginning) [] (B .beginning .slot) (B .beginning .jobs) (B .changes))
-        ∙ getD-map-ticket os k)
+        (from-slot-at (B .beginning .slot) (choices q d (B .beginning) [] (B .beginning .slot) (B .beginning .jobs) (B .changes)) k ∙ choices-at q d B k)
 
     slot : gives test B (made-by q d B) (B .beginning .slot + k) ≡ passes test o
     slot =
         unfold gives in
         (ap (λ t. has (λ r. eqb (r .ticket) t && test r) (jobs B)) ticket
         ∙ gives-job test (jobs B) o (jobs-rising S B T)
-        (λ r e. unfold jobs in picks-from q d (B .beginning) [] (B .beginning .slot) (B .beginning .jobs) (B .changes) r (getD-mem os k r e)))
+        (λ r e. picked-job q d B k r e))

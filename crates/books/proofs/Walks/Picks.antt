@@ -3,7 +3,7 @@ use mathlib.Core.Path.{_≡_, refl, sym, ap, ap₂, _∙_, subst}
 use mathlib.Core.Bool.{Bool, true, false, cond, _&&_, _||_}
 use mathlib.Core.Logic.{_⊎_, inl, inr}
 use mathlib.Core.Option.{Option, none, some}
-use mathlib.Core.List.{List, [], _∷_, _++_, map, append-assoc, List·Memᴰ, List·Memᴰ·head, List·Memᴰ·tail, Memᴰ·append-left, Memᴰ·append-right, List·Memᴰ·append-cases}
+use mathlib.Core.List.{List, [], _∷_, _++_, map, append-assoc, List·Memᴰ, List·Memᴰ·head, List·Memᴰ·tail, Memᴰ·append-left}
 use Prim.Native.Nat.{ℕ, suc, _≤_}
 use native.Mathlib.Omega.{arith}
 use lib.Dec.{leb, eqb}
@@ -13,8 +13,9 @@ use Rattle.lists.proofs.Tests.{test, and-left, and-right, cond-true, cond-false
 use Rattle.rule.specs.Job.{Job, job, in-date}
 use Rattle.rule.specs.Bake.{ticket-of}
 use Rattle.books.specs.Book.{Beginning, Change, enter, end-slot, entered}
-use Rattle.books.specs.Rule.{Rule, valid, without, choices}
-use Rattle.books.proofs.Walks.Tickets.{without-mem}
+use Rattle.books.specs.Rule.{Rule, valid, choices}
+use Rattle.books.proofs.Walks.Place.{Place, entering, closing, named}
+use Rattle.books.proofs.Walks.Tickets.{without-mem-append}
 
 -- the job that a ticket names, if it is left and in date
 unfoldable pub found : ℕ → List Job → ℕ → Option Job
@@ -70,38 +71,26 @@ search s (x ∷ L) t = go (test (eqb (x .ticket) t && leb s (x .last))) (search 
           has-it = λ e. ap (λ b. b || rest) h ∙ k .has-it e;
         })
 
--- the jobs that a rule bakes along the changes
-unfoldable pub picks : Rule → ℕ → Beginning → List Change → ℕ → List Job → List Change → List (Option Job)
-picks q d b past s left [] = []
-picks q d b past s left (enter t w g ∷ es) = picks q d b (past ++ (enter t w g ∷ [])) s (left ++ (job t s w g ∷ [])) es
-picks q d b past s left (end-slot ∷ es) =
-    found s left (q d b past) ∷ picks q d b (past ++ (end-slot ∷ [])) (suc s) (without (valid s left (q d b past)) left) es
+module _ (q : Rule) (d : ℕ) (b : Beginning) where
+  -- the jobs that a rule bakes along the changes
+  unfoldable pub picks : Place → List Change → List (Option Job)
+  picks P [] = []
+  picks P (enter t w g ∷ es) = picks (entering P t w g) es
+  picks P (end-slot ∷ es) = found (P .slot) (P .left) (named q d b P) ∷ picks (closing P (named q d b P)) es
 
-pub picks-choices : (q : Rule) (d : ℕ) (b : Beginning) (past : List Change) (s : ℕ) (left : List Job) (es : List Change)
-    → choices q d b past s left es ≡ map ticket-of (picks q d b past s left es)
-unfolding choices picks
-picks-choices q d b past s left [] = refl
-picks-choices q d b past s left (enter t w g ∷ es) = picks-choices q d b (past ++ (enter t w g ∷ [])) s (left ++ (job t s w g ∷ [])) es
-picks-choices q d b past s left (end-slot ∷ es) =
-    ap₂ _∷_ (search s left (q d b past) .named)
-    (picks-choices q d b (past ++ (end-slot ∷ [])) (suc s) (without (valid s left (q d b past)) left) es)
+  pub picks-choices : (P : Place) (es : List Change) → choices q d b (P .past) (P .slot) (P .left) es ≡ map ticket-of (picks P es)
+  unfolding choices picks
+  picks-choices P [] = refl
+  picks-choices P (enter t w g ∷ es) = picks-choices (entering P t w g) es
+  picks-choices P (end-slot ∷ es) = ap₂ _∷_ (search (P .slot) (P .left) (named q d b P) .named) (picks-choices (closing P (named q d b P)) es)
 
--- each is left, or still to come
-pub picks-from : (q : Rule) (d : ℕ) (b : Beginning) (past : List Change) (s : ℕ) (left : List Job) (es : List Change) (r : Job)
-    → List·Memᴰ (some r) (picks q d b past s left es) → List·Memᴰ r (left ++ entered s es)
-unfolding picks entered
-picks-from q d b past s left [] r m = absurd (elim m [ ])
-picks-from q d b past s left (enter t w g ∷ es) r m =
-    subst (List·Memᴰ r) (append-assoc left (job t s w g ∷ []) (entered s es))
-    (picks-from q d b (past ++ (enter t w g ∷ [])) s (left ++ (job t s w g ∷ [])) es r m)
-picks-from q d b past s left (end-slot ∷ es) r (List·Memᴰ·head e) =
-    Memᴰ·append-left (entered (suc s) es) (search s left (q d b past) .is r (sym e) .mem)
-picks-from q d b past s left (end-slot ∷ es) r (List·Memᴰ·tail m) =
-    go (List·Memᴰ·append-cases (without t left) (picks-from q d b (past ++ (end-slot ∷ [])) (suc s) (without t left) es r m))
-  where
-    t : ℕ
-    t = valid s left (q d b past)
-
-    go : List·Memᴰ r (without t left) ⊎ List·Memᴰ r (entered (suc s) es) → List·Memᴰ r (left ++ entered (suc s) es)
-    go (inl k) = Memᴰ·append-left (entered (suc s) es) (without-mem t left k .0)
-    go (inr k) = Memᴰ·append-right left k
+  -- each is left, or still to come
+  pub picks-from : (P : Place) (es : List Change) (r : Job) → List·Memᴰ (some r) (picks P es) → List·Memᴰ r (P .left ++ entered (P .slot) es)
+  unfolding picks entered
+  picks-from P [] r m = absurd (elim m [ ])
+  picks-from P (enter t w g ∷ es) r m =
+      subst (List·Memᴰ r) (append-assoc (P .left) (job t (P .slot) w g ∷ []) (entered (P .slot) es)) (picks-from (entering P t w g) es r m)
+  picks-from P (end-slot ∷ es) r (List·Memᴰ·head e) =
+      Memᴰ·append-left (entered (suc (P .slot)) es) (search (P .slot) (P .left) (named q d b P) .is r (sym e) .mem)
+  picks-from P (end-slot ∷ es) r (List·Memᴰ·tail m) =
+      without-mem-append (valid (P .slot) (P .left) (named q d b P)) (P .left) (entered (suc (P .slot)) es) (picks-from (closing P (named q d b P)) es r m)

@@ -1,7 +1,8 @@
 -- Jobs with rising tickets: a ticket names one job, and baking it takes just that job away.
 use mathlib.Core.Path.{_≡_, refl, sym, ap, _∙_}
 use mathlib.Core.Bool.{Bool, true, false, not, cond}
-use mathlib.Core.List.{List, [], _∷_, _++_, map, List·Memᴰ, List·Memᴰ·head, List·Memᴰ·tail}
+use mathlib.Core.Logic.{⊎-elim}
+use mathlib.Core.List.{List, [], _∷_, _++_, map, List·Memᴰ, List·Memᴰ·head, List·Memᴰ·tail, Memᴰ·append-left, Memᴰ·append-right, List·Memᴰ·append-cases}
 use Prim.Native.Nat.{ℕ, _≤_, _<_}
 use native.Mathlib.Omega.{arith}
 use lib.Dec.{ltb, eqb}
@@ -64,6 +65,11 @@ unfolding without
 without-mem t L {r} m =
     let k = select-mem (λ x. not (eqb (x .ticket) t)) r L m in
     (k .0, λ e. eqb-false (r .ticket) t (not-true (eqb (r .ticket) t) (k .1)) e)
+
+-- which were among the jobs before, with others behind
+pub without-mem-append : (t : ℕ) (L C : List Job) {r : Job} → List·Memᴰ r (without t L ++ C) → List·Memᴰ r (L ++ C)
+without-mem-append t L C m =
+    ⊎-elim (λ k. Memᴰ·append-left C (without-mem t L k .0)) (λ k. Memᴰ·append-right L k) (List·Memᴰ·append-cases (without t L) m)
 
 pub mem-without : (t : ℕ) {L : List Job} {r : Job} → List·Memᴰ r L → (r .ticket ≡ t → ⊥) → List·Memᴰ r (without t L)
 unfolding without

@@ -16,7 +16,7 @@ use Rattle.board.proofs.Calls.Rows.{admits}
 use Rattle.claims.specs.Calls.{Call, admit, close}
 use Rattle.claims.specs.DayBook.{new-book, entered-now, lets-through, change-of, book-after, drawn, day-book}
 use Rattle.claims.specs.Demand3.{setting, book-of}
-use Rattle.books.proofs.Walks.Positions.{lifted-join}
+use Rattle.books.proofs.Walks.GoesOn.{lifted-join}
 use Rattle.claims.proofs.Drawing.Added.{book-through, book-stopped}
 use Rattle.claims.proofs.Drawing.PlanOfOurRule.{first-book, book-added}
 
