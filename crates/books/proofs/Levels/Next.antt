@@ -4,7 +4,7 @@ use mathlib.Core.Path.{_≡_, sym, _∙_, subst}
 use mathlib.Core.Bool.{Bool, false}
 use mathlib.Core.Option.{some}
 use mathlib.Core.List.{List, [], _∷_, _++_, List·Memᴰ}
-use Prim.Native.Nat.{ℕ, suc, _+_, _≤_, _<_}
+use Prim.Native.Nat.{ℕ, suc, _+_, _<_}
 use native.Mathlib.Omega.{arith}
 use lib.ListN.{length}
 use Rattle.lists.specs.Select.{one-if, select}
@@ -21,26 +21,23 @@ use Rattle.rule.specs.Descent.{no-regret-after}
 use Rattle.rule.proofs.NoRegret.Items.{items}
 use Rattle.rule.proofs.NoRegret.Order.{leaves-no-regret}
 use Rattle.rule.proofs.NoRegret.Start.{starts-one-if}
-use Rattle.books.specs.Book.{Change, Book, closings}
-use Rattle.books.specs.Schedule.{baked-in}
+use Rattle.books.specs.Book.{Book, closings}
 use Rattle.books.specs.Rule.{Rule, without, made-by}
 use Rattle.books.specs.Rival.{Setting, Tried, NoLarger, count-of}
 use Rattle.books.specs.NoRegretRule.{by-choice, keeps-at, Keeps}
 use Rattle.books.proofs.Walks.Place.{Place, rest, closing}
 use Rattle.books.proofs.Walks.Without.{without-less}
-use Rattle.books.proofs.Walks.GoesOn.{GoesOn, goes-end}
 use Rattle.books.proofs.Walks.Picks.{found, Found, search, picks}
 use Rattle.books.proofs.Schedules.Counts.{passes, one-some, tally}
 use Rattle.books.proofs.Runs.Kept.{Kept, idle, bake, kept, found-dated, kept-unless}
-use Rattle.books.proofs.Runs.JobRun.{job-run}
 use Rattle.books.proofs.Runs.AnyRun.{found-valid}
 use Rattle.books.proofs.Runs.KeptRuns.{leaves}
 use Rattle.books.proofs.Choices.Follow.{follow}
-use Rattle.books.proofs.Adversary.Future.{ok, future, future-lifted}
-use Rattle.books.proofs.Adversary.Stage.{Cut, staged, highest-at, staged-tried, staged-closed, place, ticket, goes-on, goes-here, staged-count, at-cut, each-cut}
+use Rattle.books.proofs.Adversary.Future.{ok}
+use Rattle.books.proofs.Adversary.Stage.{Cut, staged, highest-at, staged-closed, place, ticket, goes-here, staged-count, at-cut, each-cut}
 use Rattle.books.proofs.Adversary.Allowed.{all-allowed}
 use Rattle.books.proofs.Adversary.Turning.{turned, ours-at, ours-there, turned-count, turned-keeps}
-use Rattle.books.proofs.Adversary.RunOn.{trees-on}
+use Rattle.books.proofs.Adversary.RunOn.{answer, answered, tree-on}
 
 -- no rule that follows q for a while and is then ours has a larger count
 abbrev pub UnbeatenByFollowers : Setting → ℕ → Rule → Type 0
@@ -63,46 +60,24 @@ module _ {S : Setting} (j : ℕ) (jd : j < S .depth) (q : Rule) (a : Keeps S j q
   -- arrivals on which q has a smaller count
   wins : {p r : Job} → found (P .slot) (P .left) (ticket C q) ≡ some p → found (P .slot) (P .left) (ours-at C q) ≡ some r
       → Beaten (ok S) j d (P .slot) (tree d (items d (rest P (ticket C q)))) (tree d (items d (rest P (ours-at C q)))) (bits d (p .grade)) (bits d (r .grade)) → ⊥
+  unfolding NoLarger count-of
   wins e y B =
+      let E = answer C q (B .by) in
+      let T = answered C q (B .by) in
+      let v = B .u ++ (false ∷ []) in
+      let k = closings (C .pre) + suc (closings E) in
       omega (
         arith,
-        unbeaten-here,
+        unbeaten (staged C E) T (length (C .pre)) (B .u) (B .bits) k (omega (arith, staged-closed C E)),
         staged-count C q E T (graded d v) (closings E),
         turned-count C q E T (graded d v) (closings E),
         B .wins (λ w. tally (graded d w) (picks q d (C .b) (closing P (ticket C q)) E) (closings E))
             (λ w. tally (graded d w) (picks (turned C q) d (C .b) (closing P (ours-at C q)) E) (closings E))
-            (trees-on S n h (B .first) (B .later) (B .first-fit) (B .later-fit) j (omega arith) (rest P (ticket C q))
-            (job-run (keeps-at j d) q d (C .b) (goes (ticket C q)) (at-cut C q (keeps-at j d) E (unfold Keeps in a (staged C E) T) .1)))
-            (trees-on S n h (B .first) (B .later) (B .first-fit) (B .later-fit) (suc j) jd (rest P (ours-at C q))
-            (job-run (keeps-at (suc j) d) (turned C q) d (C .b) (goes (ours-at C q)) (turned-keeps C q E (suc j) jd T))),
+            (tree-on C q (B .by) q (ticket C q) j (omega arith) (at-cut C q (keeps-at j d) E (unfold Keeps in a (staged C E) T) .1))
+            (tree-on C q (B .by) (turned C q) (ours-at C q) (suc j) jd (turned-keeps C q E (suc j) jd T)),
         one (ticket C q) v e,
         one (ours-at C q) v y,
       )
-    where
-      v : List Bool
-      v = B .u ++ (false ∷ [])
-
-      n : ℕ
-      n = suc (P .slot)
-
-      h : ℕ
-      h = highest-at C
-
-      E : List Change
-      E = future h n (B .first) (B .later)
-
-      T : Tried S (staged C E)
-      T = staged-tried C E (future-lifted S h n (B .first) (B .later) (B .first-fit) (B .later-fit))
-
-      goes : (x : ℕ) → GoesOn S h (closing P x) E
-      goes x = goes-end x (goes-on C q T)
-
-      k : ℕ
-      k = closings (C .pre) + suc (closings E)
-
-      unbeaten-here : baked-in (graded d v) (staged C E) (made-by (turned C q) d (staged C E)) k ≤ baked-in (graded d v) (staged C E) (made-by q d (staged C E)) k
-      unbeaten-here =
-          unfold NoLarger count-of in unbeaten (staged C E) T (length (C .pre)) (B .u) (B .bits) k (omega (arith, staged-closed C E))
 
   -- a job of order j that is not of order j + 1
   outside : (p : Job) → List·Memᴰ p (no-regret-after (P .slot) d j (select (in-date (P .slot)) (P .left))) → found (P .slot) (P .left) (ticket C q) ≡ some p

@@ -9,7 +9,6 @@ use Prim.Native.Nat.{ℕ, suc, _+_, _≤_, _<_}
 use native.Mathlib.Omega.{arith}
 use Rattle.lists.specs.Select.{one-if, select, has}
 use Rattle.lists.proofs.Tests.{cmp, test, never}
-use Rattle.heights.proofs.Schedule.Run.{AnyStep, TightStep, any-from-on, tight-from-on}
 use Rattle.heights.proofs.Items.Item.{part}
 use Rattle.heights.proofs.Adversary.Level0.{Beaten0, beaten0}
 use Rattle.rule.specs.Job.{Job, in-date}
@@ -26,20 +25,18 @@ use Rattle.books.specs.Rule.{Rule, made-by}
 use Rattle.books.specs.Rival.{Setting, lifted, Tried, Rival}
 use Rattle.books.specs.NoRegretRule.{keeps-at, Keeps}
 use Rattle.books.proofs.Walks.Place.{Place, rest, closing}
-use Rattle.books.proofs.Walks.GoesOn.{GoesOn, goes-end}
 use Rattle.books.proofs.Walks.Picks.{found, Found, search, picks}
 use Rattle.books.proofs.Walks.Positions.{picks-length}
 use Rattle.books.proofs.Schedules.Counts.{passes, one-none, any, one-any, tally, tally-none}
 use Rattle.books.proofs.Schedules.Plans.{made-schedule}
 use Rattle.books.proofs.Runs.Kept.{Kept, idle, bake, after-none, found-dated, kept-unless}
-use Rattle.books.proofs.Runs.JobRun.{job-run, any-job-run}
-use Rattle.books.proofs.Runs.AnyRun.{ones, sum-all, leaves-part, any-run}
-use Rattle.books.proofs.Runs.KeptRuns.{tight-of, tight-run}
-use Rattle.books.proofs.Adversary.Future.{ok, future, future-lifted}
-use Rattle.books.proofs.Adversary.Stage.{Cut, staged, highest-at, staged-tried, staged-closed, place, ticket, goes-on, goes-here, staged-count, each-cut}
+use Rattle.books.proofs.Runs.AnyRun.{ones, sum-all, leaves-part}
+use Rattle.books.proofs.Runs.KeptRuns.{tight-of}
+use Rattle.books.proofs.Adversary.Future.{ok}
+use Rattle.books.proofs.Adversary.Stage.{Cut, staged, staged-tried, staged-closed, place, ticket, goes-here, staged-count, each-cut}
 use Rattle.books.proofs.Adversary.Allowed.{fit-bits}
 use Rattle.books.proofs.Adversary.Turning.{turned, ours-at, ours-there, turned-count, turned-keeps}
-use Rattle.books.proofs.Adversary.RunOn.{parts-on}
+use Rattle.books.proofs.Adversary.RunOn.{answer, answered, any-on, tight-on}
 
 module _ {S : Setting} (q : Rule) (R : Rival S q) (C : Cut S) where
   abbrev d : ℕ
@@ -90,12 +87,13 @@ module _ {S : Setting} (q : Rule) (R : Rival S q) (C : Cut S) where
   wins : {p r : Job} → at (ticket C q) ≡ some p → at (ours-at C q) ≡ some r
       → Beaten0 (ok S) d (P .slot) (part (items d (rest P (ticket C q)))) (part (items d (rest P (ours-at C q)))) → ⊥
   wins e y B =
+      let E = answer C q (B .by) in
+      let T = answered C q (B .by) in
       omega (
         arith,
         no-more E T,
-        B .wins (ones (theirs E)) (ones (ours E)) (parts-on S n h (B .first) (B .later) (B .first-fit) (B .later-fit) AnyStep any-from-on (rest P (ticket C q)) (any-run d (any-job-run q d (C .b) (goes (ticket C q)))))
-            (parts-on S n h (B .first) (B .later) (B .first-fit) (B .later-fit) TightStep tight-from-on (rest P (ours-at C q))
-            (tight-run d (job-run (keeps-at 0 d) (turned C q) d (C .b) (goes (ours-at C q)) (turned-keeps C q E 0 (omega arith) T)))),
+        B .wins (ones (theirs E)) (ones (ours E)) (any-on C q (B .by) q (ticket C q))
+            (tight-on C q (B .by) (turned C q) (ours-at C q) (turned-keeps C q E 0 (omega arith) T)),
         sum-all (theirs E),
         sum-all (ours E),
         one-any e,
@@ -103,21 +101,6 @@ module _ {S : Setting} (q : Rule) (R : Rival S q) (C : Cut S) where
         ap (tally any (theirs E)) (picks-length q d (C .b) (closing P (ticket C q)) E),
         ap (tally any (ours E)) (picks-length (turned C q) d (C .b) (closing P (ours-at C q)) E),
       )
-    where
-      n : ℕ
-      n = suc (P .slot)
-
-      h : ℕ
-      h = highest-at C
-
-      E : List Change
-      E = future h n (B .first) (B .later)
-
-      T : Tried S (staged C E)
-      T = staged-tried C E (future-lifted S h n (B .first) (B .later) (B .first-fit) (B .later-fit))
-
-      goes : (x : ℕ) → GoesOn S h (closing P x) E
-      goes x = goes-end x (goes-on C q T)
 
   -- baking a job that is not tight
   loose-beaten : (p : Job) → at (ticket C q) ≡ some p → (List·Memᴰ p (tight (P .slot) (select (in-date (P .slot)) (P .left))) → ⊥) → ⊥

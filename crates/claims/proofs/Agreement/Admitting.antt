@@ -1,13 +1,12 @@
 -- Board and book still agree after an admitting that the rows let through.
 use mathlib.Core.Path.{_≡_, sym, ap, ap₂, _∙_, subst}
-use mathlib.Core.Logic.{_⊎_, inl, inr}
-use mathlib.Core.List.{List, [], _∷_, _++_, List·Memᴰ, List·Memᴰ·append-cases, List·Memᴰ·eq-of-singleton}
+use mathlib.Core.List.{List, [], _∷_, _++_, List·Memᴰ}
 use Prim.Native.Nat.{ℕ, _+_, _-_, _≤_}
 use native.Mathlib.Omega.{arith}
 use lib.Dec.{eqb}
 use borrow.Author.Tests.{le-leb}
 use Rattle.lists.specs.Select.{select}
-use Rattle.lists.proofs.Members.{select-append, select-yes}
+use Rattle.lists.proofs.Members.{each-more, select-append, select-yes}
 use Rattle.lists.proofs.Counting.{count-append}
 use Rattle.rule.specs.Job.{Job, job, in-date}
 use Rattle.books.specs.Book.{enter, Book, highest, jobs, extend}
@@ -56,13 +55,6 @@ module _ (d s : ℕ) (b : Board) (B : Book) (left : List Job) (a : Agree d s b B
   unfolding in-date new-job job select
   dated = select-yes (in-date s) new-job [] (le-leb s (s + w - 1) (omega (arith, rows .some-laxity)))
 
-  of-either : (P : Job → Type 0) (A : List Job) → ((r : Job) → List·Memᴰ r A → P r) → P new-job → (r : Job) → List·Memᴰ r (A ++ (new-job ∷ [])) → P r
-  of-either P A h n r m = go (List·Memᴰ·append-cases A m)
-    where
-      go : List·Memᴰ r A ⊎ List·Memᴰ r (new-job ∷ []) → P r
-      go (inl k) = h r k
-      go (inr k) = subst P (sym (List·Memᴰ·eq-of-singleton k)) n
-
   pub agree-admitted : Agree d s (with-job b t w g) (extend B (enter t w g)) (left ++ (job t s w g ∷ []))
   unfolding with-job new-job job
   agree-admitted =
@@ -73,6 +65,6 @@ module _ (d s : ℕ) (b : Board) (B : Book) (left : List Job) (a : Agree d s b B
         book-slot = present-entered B t w g ∙ a .book-slot;
         same-highest = highest-entered B t w g;
         same-intake = counts;
-        begun = λ r m. of-either (λ q. q .admitted ≤ s) (jobs B) (a .begun) (omega arith) r (subst (List·Memᴰ r) new-jobs m);
+        begun = λ r m. each-more (λ (q : Job). q .admitted ≤ s) (jobs B) (a .begun) (omega arith) r (subst (List·Memᴰ r) new-jobs m);
         on-board = new-held ∙ ap₂ _++_ (a .on-board) (sym dated) ∙ sym (select-append (in-date s) left (new-job ∷ []));
       }

@@ -34,6 +34,13 @@ unfoldable pub AllFit : Grades → ℕ → ℕ → List (List Item) → Type 0
 AllFit ok d n [] = Unit {0}
 AllFit ok d n (F ∷ fs) = Each (Fit ok d n) F × AllFit ok d (suc n) fs
 
+-- what arrives when slot n has ended, and after each slot from then on
+pub record Arrivals (ok : Grades) (d n : ℕ) : Type 0 where
+  pub first : List Item
+  pub first-fit : Each (Fit ok d (suc n)) first
+  pub later : List (List Item)
+  pub later-fit : AllFit ok d (suc (suc n)) later
+
 -- S holds only allowed grades from slot n on
 unfoldable pub Only : Grades → (d n : ℕ) → Tree d → Type 0
 Only ok zero n A = ok [] ≡ false → A .at n ≡ 0

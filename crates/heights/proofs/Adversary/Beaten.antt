@@ -64,10 +64,7 @@ beaten ok j d n S A B w v h o g f nt =
         record {
           u = t .u;
           bits = t .bits;
-          first = [];
-          first-fit = tt;
-          later = [];
-          later-fit = tt;
+          by = record { first = []; first-fit = tt; later = []; later-fit = tt };
           wins = λ c e p q. omega (arith, t .less, run-empty p (t .u ++ zero-bit), run-empty q (t .u ++ zero-bit));
         }
     go (inr t) = t .answer

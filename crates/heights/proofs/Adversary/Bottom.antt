@@ -136,15 +136,18 @@ module _ (ok : Grades) (d n : ℕ) (S A B : Tree (suc d)) (w v g h : List Bool) 
             record {
               u = [];
               bits = refl;
-              first = first;
-              first-fit =
-                  both-fit ok d (suc n) Z stuffing (arrival-fit (beyond false ok) d m (suc n) g gok gbits)
-                  (
-                  copies-fit (beyond true ok) d (suc n) (suc l - n) (record { last = l; grade = h })
-                  record { allowed = record { in-set = hok; bits = hbits }; date = omega arith }
-                  );
-              later = later;
-              later-fit = lift-fit ok d (suc (suc n)) false (feed m (suc n) k g) (feed-fit (beyond false ok) d m (suc n) k g gok gbits);
+              by =
+                  record {
+                    first = first;
+                    first-fit =
+                        both-fit ok d (suc n) Z stuffing (arrival-fit (beyond false ok) d m (suc n) g gok gbits)
+                        (
+                        copies-fit (beyond true ok) d (suc n) (suc l - n) (record { last = l; grade = h })
+                        record { allowed = record { in-set = hok; bits = hbits }; date = omega arith }
+                        );
+                    later = later;
+                    later-fit = lift-fit ok d (suc (suc n)) false (feed m (suc n) k g) (feed-fit (beyond false ok) d m (suc n) k g gok gbits);
+                  };
               wins = λ c e p q. omega (arith, at-most c p, at-least e q, wz, vz);
             };
         l = l;

@@ -9,8 +9,8 @@ use lib.ListN.{length}
 use Rattle.heights.proofs.Heights.Part.{Part, _⊕_, Out, out-less, not-above}
 use Rattle.heights.proofs.Heights.TightSlot.{TightSlot}
 use Rattle.heights.proofs.Schedule.Run.{TightStep, AnyStep, stop, next, TightRun, Schedule, sum}
-use Rattle.heights.proofs.Items.Item.{Item, part, parts, Each}
-use Rattle.heights.proofs.Adversary.Allowed.{Grades, Fit, AllFit}
+use Rattle.heights.proofs.Items.Item.{part, parts}
+use Rattle.heights.proofs.Adversary.Allowed.{Grades, Arrivals}
 use Rattle.heights.proofs.Adversary.Arrivals.{arrival, arrival-past, arrival-out, arrival-in, arrival-fit, feed, feed-fit}
 use Rattle.heights.proofs.Adversary.Bounds.{Shrinks, AtMost, most-step, shrink-out, shrink-none, AtLeast, least-some, least-step}
 
@@ -51,13 +51,10 @@ module _ (m b : ℕ) (g : List Bool) (mb : m ≤ b) where
         least E k (suc t) (T ⊕ part (arrival m (suc t) g)) ks Eb (omega arith) (omega (arith, s .2, arrival-past m (suc t) g (suc b) (omega arith))) (s .1) r,
       )
 
--- the adversary's answer: what arrives when slot n has ended, and after each slot from then on
+-- arrivals on which what goes on from A takes fewer than what goes on tight from C
 pub record Beaten0 (ok : Grades) (d n : ℕ) (A C : Part) : Type 0 where
-  pub first : List Item
-  pub first-fit : Each (Fit ok d (suc n)) first
-  pub later : List (List Item)
-  pub later-fit : AllFit ok d (suc (suc n)) later
-  pub wins : (cs es : List ℕ) → Schedule (suc n) (A ⊕ part first) (parts later) cs → TightRun (suc n) (C ⊕ part first) (parts later) es
+  pub by : Arrivals ok d n
+  pub wins : (cs es : List ℕ) → Schedule (suc n) (A ⊕ part (by .first)) (parts (by .later)) cs → TightRun (suc n) (C ⊕ part (by .first)) (parts (by .later)) es
       → sum cs < sum es
 
 pub beaten0 : {n l p q : ℕ} {S A C : Part} (ok : Grades) (d : ℕ) (g : List Bool) → ok g ≡ true → length g ≡ d → TightSlot n S l → Out n p S A → l < p
@@ -80,10 +77,13 @@ beaten0 {n} {l} {p} {q} {S} {A} {C} ok d g gok gbits T a lp c ql =
     }
     in
     record {
-      first = F;
-      first-fit = arrival-fit ok d l (suc n) g gok gbits;
-      later = feed l (suc n) (E - suc n) g;
-      later-fit = feed-fit ok d l (suc n) (E - suc n) g gok gbits;
+      by =
+          record {
+            first = F;
+            first-fit = arrival-fit ok d l (suc n) g gok gbits;
+            later = feed l (suc n) (E - suc n) g;
+            later-fit = feed-fit ok d l (suc n) (E - suc n) g gok gbits;
+          };
       wins =
           λ cs es r s.
           omega (
