@@ -1,10 +1,11 @@
 -- P and Q differ in one job each: Q has a 0-job x where P has a 1-job y, both named by their last slots; y may have expired.
 -- What both have is X: its 0-jobs are P's, its 1-jobs are Q's. A job is redundant where for each height there is a later one beyond it that is no more.
+use mathlib.Core.Path.{_≡_}
 use mathlib.Core.Bool.{true, false}
 use mathlib.Core.Logic.{_⊎_, inl, inr, ⊎-elim}
-use Prim.Native.Nat.{ℕ, _+_, _≤_, _<_}
+use Prim.Native.Nat.{ℕ, suc, _+_, _-_, _≤_, _<_, min}
 use native.Mathlib.Omega.{arith}
-use Rattle.heights.proofs.Heights.Part.{Part, OneMore, cmp}
+use Rattle.heights.proofs.Heights.Part.{Part, OneMore, more-at, cmp}
 use Rattle.heights.proofs.Heights.Reach.{Reach}
 use Rattle.heights.proofs.Sides.Board.{Sides, whole}
 
@@ -42,29 +43,36 @@ past-y {n} {x} {y} {A} {B} L s h k j =
         → (t : ℕ) × (x < t) × (t + A .at t + B .at t ≤ s + A .at s + B .at s)
     low g t = (t .0, t .1, omega (arith, A .anti s (L .mark) (omega arith)))
 
--- as wholes, P and Q reach each other
-pub exchange-forth : {n x y : ℕ} {P Q : Sides} → Exchanged n x y P Q → Reach n 0 (whole P) (whole Q)
-exchange-forth {n} {x} {y} {P} {Q} e = record { to = λ s h. go s h (e .either) (cmp s x) (cmp s y) }
-  where
-    go : (s : ℕ) → n ≤ s → Redundant n x y (P false) (Q true) → (s ≤ x) ⊎ (x < s) → (s ≤ y) ⊎ (y < s)
-        → (t : ℕ) × (s ≤ t) × (t + whole Q .at t ≤ s + whole P .at s + 0)
-    go s h d (inl a) (inl b) = (s, omega arith, omega (arith, e .x-more .low s h a, e .y-more .low s h b))
-    go s h d (inr a) (inl b) = (s, omega arith, omega (arith, e .x-more .high s h a, e .y-more .low s h b))
-    go s h d (inr a) (inr b) = (s, omega arith, omega (arith, e .x-more .high s h a, e .y-more .high s h b))
-    go s h (inl L) (inl a) (inr b) =
-        let t = past-y L s h b a in
-        (t .0, omega arith, omega (arith, e .x-more .high (t .0) (omega arith) (t .1), e .y-more .high s h b))
-    go s h (inr H) (inl a) (inr b) = absurd (omega (arith, H .late))
+-- B has a job x where A has a job y: A reaches B if it does past y up to x
+gap-reach : {n : ℕ} {A B : Part} (x y : ℕ) → ((s : ℕ) → n ≤ s → B .at s + min 1 (suc y - s) ≡ A .at s + min 1 (suc x - s))
+    → ((s : ℕ) → n ≤ s → s ≤ x → y < s → (t : ℕ) × (s ≤ t) × (t + B .at t ≤ s + A .at s + 0)) → Reach n 0 A B
+gap-reach {n} {A} {B} x y f g =
+    record {
+      to =
+          λ s h.
+          ⊎-elim
+          {C = (t : ℕ) × (s ≤ t) × (t + B .at t ≤ s + A .at s + 0)}
+          (λ (i : s ≤ x). ⊎-elim (λ (j : s ≤ y). (s, omega arith, omega (arith, f s h))) (λ (j : y < s). g s h i j) (cmp s y))
+          (λ (i : x < s). (s, omega arith, omega (arith, f s h)))
+          (cmp s x);
+    }
 
-pub exchange-back : {n x y : ℕ} {P Q : Sides} → Exchanged n x y P Q → Reach n 0 (whole Q) (whole P)
-exchange-back {n} {x} {y} {P} {Q} e = record { to = λ s h. go s h (e .either) (cmp s x) (cmp s y) }
-  where
-    go : (s : ℕ) → n ≤ s → Redundant n x y (P false) (Q true) → (s ≤ x) ⊎ (x < s) → (s ≤ y) ⊎ (y < s)
-        → (t : ℕ) × (s ≤ t) × (t + whole P .at t ≤ s + whole Q .at s + 0)
-    go s h d (inl a) (inl b) = (s, omega arith, omega (arith, e .x-more .low s h a, e .y-more .low s h b))
-    go s h d (inl a) (inr b) = (s, omega arith, omega (arith, e .x-more .low s h a, e .y-more .high s h b))
-    go s h d (inr a) (inr b) = (s, omega arith, omega (arith, e .x-more .high s h a, e .y-more .high s h b))
-    go s h (inr H) (inr a) (inl b) =
-        let t = H .redundant s h a b in
-        (t .0, omega arith, omega (arith, e .y-more .high (t .0) (omega arith) (t .1), e .x-more .high s h a))
-    go s h (inl L) (inr a) (inl b) = absurd (omega (arith, L .early))
+-- as wholes, P and Q reach each other
+module _ {n x y : ℕ} {P Q : Sides} (e : Exchanged n x y P Q) where
+  pub exchange-forth : Reach n 0 (whole P) (whole Q)
+  exchange-forth = gap-reach x y (λ s h. omega (arith, more-at (e .x-more) s h, more-at (e .y-more) s h)) (λ s h a b. go s h a b (e .either))
+    where
+      go : (s : ℕ) → n ≤ s → s ≤ x → y < s → Redundant n x y (P false) (Q true) → (t : ℕ) × (s ≤ t) × (t + whole Q .at t ≤ s + whole P .at s + 0)
+      go s h a b (inl L) =
+          let t = past-y L s h b a in
+          (t .0, omega arith, omega (arith, e .x-more .high (t .0) (omega arith) (t .1), e .y-more .high s h b))
+      go s h a b (inr H) = absurd (omega (arith, H .late))
+
+  pub exchange-back : Reach n 0 (whole Q) (whole P)
+  exchange-back = gap-reach y x (λ s h. omega (arith, more-at (e .x-more) s h, more-at (e .y-more) s h)) (λ s h a b. go s h a b (e .either))
+    where
+      go : (s : ℕ) → n ≤ s → s ≤ y → x < s → Redundant n x y (P false) (Q true) → (t : ℕ) × (s ≤ t) × (t + whole P .at t ≤ s + whole Q .at s + 0)
+      go s h a b (inr H) =
+          let t = H .redundant s h b a in
+          (t .0, omega arith, omega (arith, e .y-more .high (t .0) (omega arith) (t .1), e .x-more .high s h b))
+      go s h a b (inl L) = absurd (omega (arith, L .early))

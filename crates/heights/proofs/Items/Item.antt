@@ -2,11 +2,11 @@
 use mathlib.Core.Path.{_≡_, refl}
 use mathlib.Core.Bool.{Bool}
 use mathlib.Core.List.{List, [], _∷_, _++_}
-use Prim.Native.Nat.{ℕ, suc, _+_, _-_, _≤_, _<_, min}
+use Prim.Native.Nat.{ℕ, suc, _+_, _-_, _≤_, min}
 use native.Mathlib.Omega.{arith}
 use lib.Dec.{leb}
 use Rattle.lists.proofs.Less.{Less, here, there}
-use Rattle.heights.proofs.Heights.Part.{Part, _⊕_, Same, Out}
+use Rattle.heights.proofs.Heights.Part.{Part, _⊕_, Same, at-more, Out}
 use Rattle.lists.specs.Select.{one-if}
 use Rattle.lists.proofs.Counting.{one-leb}
 
@@ -56,23 +56,16 @@ parts (F ∷ fs) = part F ∷ parts fs
 pub part-append : (n : ℕ) (A B : List Item) → Same n (part (A ++ B)) (part A ⊕ part B)
 part-append n A B = record { is = λ s h. count-append A B s }
 
-pub less-low : {p : Item} {A B : List Item} → Less p A B → (s : ℕ) → s ≤ p .last → count A s ≡ suc (count B s)
-less-low {p} (here {L = A}) s h = omega (arith, count-cons p A s)
-less-low (there {r = r} {L = A} {L' = B} l) s h = omega (arith, count-cons r A s, count-cons r B s, less-low l s h)
-
-pub less-high : {p : Item} {A B : List Item} → Less p A B → (s : ℕ) → p .last < s → count A s ≡ count B s
-less-high {p} (here {L = A}) s h = omega (arith, count-cons p A s)
-less-high (there {r = r} {L = A} {L' = B} l) s h = omega (arith, count-cons r A s, count-cons r B s, less-high l s h)
+-- one item less
+less-at : {p : Item} {A B : List Item} → Less p A B → (s : ℕ) → count A s ≡ count B s + min 1 (suc (p .last) - s)
+less-at {p} (here {L = A}) s = omega (arith, count-cons p A s)
+less-at (there {r = r} {L = A} {L' = B} l) s = omega (arith, count-cons r A s, count-cons r B s, less-at l s)
 
 -- an item in date leaves
 pub part-out : {n : ℕ} {p : Item} {A B : List Item} → Less p A B → n ≤ p .last → Out n (p .last) (part A) (part B)
 part-out {n} {p} {A} {B} l h =
     let q = p .last in
-    record {
-      date = h;
-      present = omega (arith, less-low l q (omega arith), less-high l (suc q) (omega arith), count-anti B q (suc q) (omega arith));
-      rest = record { low = λ s i j. less-low l s j; high = λ s i j. less-high l s j };
-    }
+    record { date = h; present = omega (arith, less-at l q, less-at l (suc q), count-anti B q (suc q) (omega arith)); rest = at-more (λ s i. less-at l s) }
 
 unfoldable pub Each : (Item → Type 0) → List Item → Type 0
 Each P [] = Unit {0}
