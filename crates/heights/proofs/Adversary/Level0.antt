@@ -11,8 +11,8 @@ use Rattle.heights.proofs.Heights.TightSlot.{TightSlot}
 use Rattle.heights.proofs.Schedule.Run.{TightStep, AnyStep, stop, next, TightRun, Schedule, sum}
 use Rattle.heights.proofs.Items.Item.{part, parts}
 use Rattle.heights.proofs.Adversary.Allowed.{Grades, Arrivals}
-use Rattle.heights.proofs.Adversary.Arrivals.{arrival, arrival-past, arrival-out, arrival-in, arrival-fit, feed, feed-fit}
-use Rattle.heights.proofs.Adversary.Bounds.{Shrinks, AtMost, most-step, shrink-out, shrink-none, AtLeast, least-some, least-step}
+use Rattle.heights.proofs.Adversary.Arrivals.{arrival, arrival-past, arrival-fit, feed, feed-fit}
+use Rattle.heights.proofs.Adversary.Bounds.{least-start, Shrinks, AtMost, most-step, shrink-out, shrink-none, AtLeast, least-some, least-step}
 
 -- b is past every job
 module _ (m b : ℕ) (g : List Bool) (mb : m ≤ b) where
@@ -69,13 +69,7 @@ beaten0 {n} {l} {p} {q} {S} {A} {C} ok d g gok gbits T a lp c ql =
     let none : S .at (suc b) ≡ 0 = omega (arith, S .none, S .anti (S .end) (suc b) (omega arith)) in
     let a-none : A .at (suc b) ≡ 0 = omega (arith, out-less a (suc b) (omega arith)) in
     let c-none : C .at (suc b) ≡ 0 = omega (arith, out-less c (suc b) (omega arith)) in
-    let I : AtLeast l b E (suc n) (C ⊕ part F) =
-    record {
-      wide = λ s h k. omega (arith, past s k, c .rest .high s h (omega arith), T .past s k, past (suc b) (omega arith));
-      due = λ h. omega (arith, arrival-in l (suc n) g h, arrival-out l (suc n) g (suc (suc n)) (omega arith), C .anti (suc n) (suc (suc n)) (omega arith));
-      level = λ h. omega (arith, past (suc l) (omega arith), c .rest .high (suc l) (omega arith) (omega arith));
-    }
-    in
+    let I : AtLeast l b E (suc n) (C ⊕ part F) = least-start g (C ⊕ part F) T c ql (omega arith) (omega arith) (λ s. refl) in
     record {
       by =
           record {

@@ -29,36 +29,31 @@ expired {n} {x} {y} {P} {Q} E h = record { side = λ b. elim b [ false ↦ zeros
     ones : Reach n 0 (P true) (Q true)
     ones = record { to = λ s i. (s, omega arith, omega (arith, more-le (E .y-more) s i)) }
 
+-- the first slot of a future, from what is claimed for the slots after it
+module _ (fs : List (Slot Sides)) (F : Sides) (ih : AheadNoLess fs × ExchangeOne fs) where
+  idle-ahead : AheadNoLess (idle F ∷ fs)
+  idle-ahead n P Q j k a (pass R s g) (pass S t h) = ih .0 (suc n) (join R F) (join S F) j k (ahead-join F (ahead-same a s t)) g h
+
+  idle-exchange : ExchangeOne (idle F ∷ fs)
+  idle-exchange n x y P Q j k e (pass R s g) (pass S t h) = ih .1 (suc n) x y (join R F) (join S F) j k (exchange-join F (exchange-same e s t)) g h
+
+  served-ahead : AheadNoLess (served F ∷ fs)
+  served-ahead n P Q j k a (serve R d i p g e) (serve S c m q h f) = omega (arith, ahead-served fs F (ih .0) (ih .1) i m a p q g h)
+
+  in-date : (n x y : ℕ) (P Q : Sides) (j k : ℕ) → n ≤ x → Exchanged n x y P Q → GoodRun n P (served F ∷ fs) j → GoodRun n Q (served F ∷ fs) k → k ≤ suc j
+  in-date n x y P Q j k l E (serve R d i p g e) (serve S c m q h f) = omega (arith, exchange-served fs F (ih .0) (ih .1) i m E l p q g h)
+
+  served-exchange : ExchangeOne (served F ∷ fs)
+  served-exchange n x y P Q j k E g h =
+      ⊎-elim (λ (i : n ≤ x). in-date n x y P Q j k i E g h) (λ (i : x < n). omega (arith, served-ahead n P Q j k (expired E i) g h)) (cmp n x)
+
 both : (fs : List (Slot Sides)) → AheadNoLess fs × ExchangeOne fs
 both [] = (λ n P Q j k a g h. none g h, λ n x y P Q j k e g h. omega (arith, none g h))
   where
     none : {n j k : ℕ} {P Q : Sides} → GoodRun n P [] j → GoodRun n Q [] k → k ≤ j
     none stop stop = omega arith
-both (idle F ∷ fs) = go (both fs)
-  where
-    go : AheadNoLess fs × ExchangeOne fs → AheadNoLess (idle F ∷ fs) × ExchangeOne (idle F ∷ fs)
-    go ih = (ahead, exchange)
-      where
-        ahead : AheadNoLess (idle F ∷ fs)
-        ahead n P Q j k a (pass R s g) (pass S t h) = ih .0 (suc n) (join R F) (join S F) j k (ahead-join F (ahead-same a s t)) g h
-
-        exchange : ExchangeOne (idle F ∷ fs)
-        exchange n x y P Q j k e (pass R s g) (pass S t h) = ih .1 (suc n) x y (join R F) (join S F) j k (exchange-join F (exchange-same e s t)) g h
-both (served F ∷ fs) = go (both fs)
-  where
-    go : AheadNoLess fs × ExchangeOne fs → AheadNoLess (served F ∷ fs) × ExchangeOne (served F ∷ fs)
-    go ih = (ahead, exchange)
-      where
-        ahead : AheadNoLess (served F ∷ fs)
-        ahead n P Q j k a (serve R d i p g e) (serve S c m q h f) = omega (arith, ahead-served fs F (ih .0) (ih .1) i m a p q g h)
-
-        in-date : (n x y : ℕ) (P Q : Sides) (j k : ℕ) → n ≤ x → Exchanged n x y P Q → GoodRun n P (served F ∷ fs) j → GoodRun n Q (served F ∷ fs) k
-            → k ≤ suc j
-        in-date n x y P Q j k l E (serve R d i p g e) (serve S c m q h f) = omega (arith, exchange-served fs F (ih .0) (ih .1) i m E l p q g h)
-
-        exchange : ExchangeOne (served F ∷ fs)
-        exchange n x y P Q j k E g h =
-            ⊎-elim (λ (i : n ≤ x). in-date n x y P Q j k i E g h) (λ (i : x < n). omega (arith, ahead n P Q j k (expired E i) g h)) (cmp n x)
+both (idle F ∷ fs) = (idle-ahead fs F (both fs), idle-exchange fs F (both fs))
+both (served F ∷ fs) = (served-ahead fs F (both fs), served-exchange fs F (both fs))
 
 pub ahead-no-less : (fs : List (Slot Sides)) → AheadNoLess fs
 ahead-no-less fs = both fs .0
