@@ -11,12 +11,12 @@ use Rattle.heights.proofs.Heights.OneMore.{more-le}
 use Rattle.heights.proofs.Heights.TightSlot.{tight-fall, tight-unique}
 use Rattle.heights.proofs.Sides.Board.{Sides, join, Slot, served, idle}
 use Rattle.heights.proofs.Sides.Tight.{chosen-le}
-use Rattle.heights.proofs.Sides.Ahead.{Ahead, ahead-refl, ahead-join, ahead-same, ahead-take}
+use Rattle.heights.proofs.Sides.Ahead.{Ahead, ahead-refl}
 use Rattle.heights.proofs.Sides.Run.{TightStep, GoodStep, stop, pass, serve, TightRun, GoodRun, good-run}
 use Rattle.heights.proofs.Exchange.Condition.{Exchanged, exchange-back}
 use Rattle.heights.proofs.Exchange.Later.{exchange-same, exchange-join}
 use Rattle.heights.proofs.Exchange.Fresh.{exchange-fresh}
-use Rattle.heights.proofs.Exchange.Dominance.{AheadNoLess, ExchangeOne, ahead-served}
+use Rattle.heights.proofs.Exchange.Dominance.{AheadNoLess, ExchangeOne, ahead-served, none-taken, both-taken}
 use Rattle.heights.proofs.Exchange.Served.{exchange-served}
 
 -- x has expired: P is ahead
@@ -32,7 +32,7 @@ expired {n} {x} {y} {P} {Q} E h = record { side = λ b. elim b [ false ↦ zeros
 -- the first slot of a future, from what is claimed for the slots after it
 module _ (fs : List (Slot Sides)) (F : Sides) (ih : AheadNoLess fs × ExchangeOne fs) where
   idle-ahead : AheadNoLess (idle F ∷ fs)
-  idle-ahead n P Q j k a (pass R s g) (pass S t h) = ih .0 (suc n) (join R F) (join S F) j k (ahead-join F (ahead-same a s t)) g h
+  idle-ahead n P Q j k a (pass R s g) (pass S t h) = none-taken fs F (ih .0) a s t g h
 
   idle-exchange : ExchangeOne (idle F ∷ fs)
   idle-exchange n x y P Q j k e (pass R s g) (pass S t h) = ih .1 (suc n) x y (join R F) (join S F) j k (exchange-join F (exchange-same e s t)) g h
@@ -66,14 +66,14 @@ module _ (fs : List (Slot Sides)) (F : Sides) where
   main-served : {n d c : ℕ} {Q R S : Sides} (j k : ℕ) → TightStep n Q R d → GoodStep n Q S c → GoodRun (suc n) (join R F) fs j
       → GoodRun (suc n) (join S F) fs k
       → d + j ≤ c + k
-  main-served {n} {Q = Q} {R} {S} j k (TightStep.rest p s) (GoodStep.rest q t) gp gq =
-      omega (arith, ahead-no-less fs (suc n) (join S F) (join R F) k j (ahead-join F (ahead-same (ahead-refl n Q) t s)) gq gp)
+  main-served {n} {Q = Q} j k (TightStep.rest p s) (GoodStep.rest q t) gp gq =
+      omega (arith, none-taken fs F (ahead-no-less fs) (ahead-refl n Q) t s gq gp)
   main-served j k (TightStep.rest p s) (GoodStep.take b l C q) gp gq = absurd (omega (arith, tight-fall (C .tight)))
   main-served j k (TightStep.take b p) (GoodStep.rest q t) gp gq = absurd (omega (arith, tight-fall (p .tight)))
-  main-served {n} {Q = Q} {R} {S} j k (TightStep.take false p) (GoodStep.take false l C q) gp gq =
-      omega (arith, ahead-no-less fs (suc n) (join S F) (join R F) k j (ahead-join F (ahead-take false (ahead-refl n Q) q p)) gq gp)
-  main-served {n} {Q = Q} {R} {S} j k (TightStep.take true p) (GoodStep.take true l C q) gp gq =
-      omega (arith, ahead-no-less fs (suc n) (join S F) (join R F) k j (ahead-join F (ahead-take true (ahead-refl n Q) q p)) gq gp)
+  main-served {n} {Q = Q} j k (TightStep.take false p) (GoodStep.take false l C q) gp gq =
+      omega (arith, both-taken fs F (ahead-no-less fs) (ahead-refl n Q) false q p gq gp)
+  main-served {n} {Q = Q} j k (TightStep.take true p) (GoodStep.take true l C q) gp gq =
+      omega (arith, both-taken fs F (ahead-no-less fs) (ahead-refl n Q) true q p gq gp)
   main-served j k (TightStep.take false p) (GoodStep.take true l C q) gp gq =
       absurd (omega (arith, C .pick, fall-in l (p .out) (omega (arith, p .within, tight-unique (p .tight) (C .tight)))))
   main-served {n} {Q = Q} {R} {S} j k (TightStep.take true p) (GoodStep.take false l C q) gp gq =
@@ -87,11 +87,7 @@ pub tight-no-more : (fs : List (Slot Sides)) (n : ℕ) (S : Sides) (j k : ℕ) �
 tight-no-more [] n S j k stop stop = omega arith
 tight-no-more (idle F ∷ fs) n S j k (pass R s r) (pass T t g) =
     let h = good-run fs (suc n) (join R F) in
-    omega (
-      arith,
-      tight-no-more fs (suc n) (join R F) j (h .0) r (h .1),
-      ahead-no-less fs (suc n) (join T F) (join R F) k (h .0) (ahead-join F (ahead-same (ahead-refl n S) t s)) g (h .1),
-    )
+    omega (arith, tight-no-more fs (suc n) (join R F) j (h .0) r (h .1), none-taken fs F (ahead-no-less fs) (ahead-refl n S) t s g (h .1))
 tight-no-more (served F ∷ fs) n S j k (serve R d i p r e) (serve T c m q g f) =
     let h = good-run fs (suc n) (join R F) in
     omega (arith, tight-no-more fs (suc n) (join R F) i (h .0) r (h .1), main-served fs F (h .0) m p q (h .1) g)

@@ -12,7 +12,7 @@ use Rattle.heights.proofs.Heights.Exists.{EarliestSlot, earliest, earli
 use Rattle.heights.proofs.Heights.Removal.{removal}
 use Rattle.heights.proofs.Sides.Board.{Sides, join, pair, out-side, Slot}
 use Rattle.heights.proofs.Sides.Tight.{Chosen, SideTake, chosen-le, chosen-take, chosen-within}
-use Rattle.heights.proofs.Sides.Ahead.{Ahead, ahead-refl, ahead-join, ahead-take}
+use Rattle.heights.proofs.Sides.Ahead.{Ahead, ahead-refl, ahead-join}
 use Rattle.heights.proofs.Sides.Run.{GoodStep, GoodRun, good-run}
 use Rattle.heights.proofs.Exchange.Condition.{Exchanged, exchange-forth, exchange-back}
 use Rattle.heights.proofs.Exchange.Later.{exchange-join}
@@ -21,7 +21,7 @@ use Rattle.heights.proofs.Exchange.BothZero.{both-take}
 use Rattle.heights.proofs.Exchange.Moved.{x-moves}
 use Rattle.heights.proofs.Exchange.ZeroOne.{ones-ahead, zeros-ahead-x, zeros-ahead-e}
 use Rattle.heights.proofs.Exchange.BothOne.{y-beyond, none-either, both-take-one}
-use Rattle.heights.proofs.Exchange.Dominance.{AheadNoLess, ExchangeOne}
+use Rattle.heights.proofs.Exchange.Dominance.{AheadNoLess, ExchangeOne, both-taken}
 
 -- the earliest job of a side serves as the job taken
 earliest-take : {n e : ℕ} {Q S T : Sides} (b : Bool) → SideTake n Q S b → EarliestSlot n (Q b) e → Out n e (Q b) (T b)
@@ -34,8 +34,7 @@ module _ (fs : List (Slot Sides)) (F : Sides) (ahead : AheadNoLess fs) (exchange
   -- a good run takes some job tight on its side: another such job serves as well
   as-well : {n l : ℕ} {Q S T : Sides} (b : Bool) (j k : ℕ) → Chosen n l Q b → SideTake n Q S b → SideTake n Q T b → GoodRun (suc n) (join S F) fs j
       → GoodRun (suc n) (join T F) fs k → j ≤ k
-  as-well {n} {l} {Q} {S} {T} b j k C p q g h =
-      ahead (suc n) (join T F) (join S F) k j (ahead-join F (ahead-take b (ahead-refl n Q) q (chosen-take b C p))) h g
+  as-well {n} {Q = Q} b j k C p q g h = both-taken fs F ahead (ahead-refl n Q) b q (chosen-take b C p) h g
 
   -- both take a 0-job
   both-zero : {n x y l m : ℕ} {P Q R S : Sides} (j k : ℕ) → Exchanged n x y P Q → n ≤ x → Chosen n l P false → SideTake n P R false
