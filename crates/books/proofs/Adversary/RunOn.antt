@@ -6,7 +6,7 @@ use Prim.Native.Nat.{ℕ, suc, _≤_}
 use lib.ListN.{take}
 use lib.Seq.{take-length}
 use Rattle.heights.proofs.Heights.Part.{Part, _⊕_, same-sym}
-use Rattle.heights.proofs.Schedule.Run.{Along, FromOn, along-same, Schedule, any-from-on, TightRun, tight-from-on}
+use Rattle.heights.proofs.Schedule.Run.{Along, StepSame, along-same, Schedule, any-step-same, TightRun, tight-step-same}
 use Rattle.heights.proofs.Trees.Tree.{join-tree, same-tree-sym}
 use Rattle.heights.proofs.Trees.Run.{Run, run-same}
 use Rattle.heights.proofs.Items.Item.{Item, part, parts, part-append}
@@ -57,7 +57,7 @@ module _ {S : Setting} (C : Cut S) (q : Rule) (A : Arrivals (ok S) (S .depth) (p
   groups-are = future-later S (highest-at C) n (A .first) (A .later) (A .first-fit) (A .later-fit)
 
   -- a run of parts with the jobs K left
-  parts-on : {ks : List ℕ} {Step : ℕ → Part → Part → ℕ → Type 0} → FromOn Step → (K : List Job)
+  parts-on : {ks : List ℕ} {Step : ℕ → Part → Part → ℕ → Type 0} → StepSame Step → (K : List Job)
       → Along Step n (part (items d (K ++ first n answer))) (parts (groups d (later n answer))) ks → Along Step n (part (items d K) ⊕ part (A .first)) (parts (A .later)) ks
   parts-on {ks} {Step} f K r =
       along-same f (same-sym (part-append n (items d K) (A .first))) (subst₂ (λ X Y. Along Step n (part X) (parts Y) ks) (together K) groups-are r)
@@ -68,11 +68,11 @@ module _ {S : Setting} (C : Cut S) (q : Rule) (A : Arrivals (ok S) (S .depth) (p
     os = picks r d (C .b) (closing P x) answer
 
     pub any-on : Schedule n (part (items d (rest P x)) ⊕ part (A .first)) (parts (A .later)) (ones os)
-    any-on = parts-on any-from-on (rest P x) (any-run d (any-job-run r d (C .b) (goes x)))
+    any-on = parts-on any-step-same (rest P x) (any-run d (any-job-run r d (C .b) (goes x)))
 
     pub tight-on : EachFrom (keeps-at 0 d) r d (C .b) (closing P x) answer
         → TightRun n (part (items d (rest P x)) ⊕ part (A .first)) (parts (A .later)) (ones os)
-    tight-on a = parts-on tight-from-on (rest P x) (tight-run d (job-run (keeps-at 0 d) r d (C .b) (goes x) a))
+    tight-on a = parts-on tight-step-same (rest P x) (tight-run d (job-run (keeps-at 0 d) r d (C .b) (goes x) a))
 
     pub tree-on : (i : ℕ) → i ≤ d → EachFrom (keeps-at i d) r d (C .b) (closing P x) answer
         → Run i d n (join-tree d (tree d (items d (rest P x))) (tree d (A .first))) (slots d (A .later)) (λ v. tally (graded d v) os (closings answer))

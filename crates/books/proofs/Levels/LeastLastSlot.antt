@@ -14,7 +14,7 @@ use Rattle.rule.specs.Tight.{laxities, excess, smallest, tight-laxity, tight}
 use Rattle.rule.specs.Descent.{next-bit, descend, no-regret-after}
 use Rattle.rule.specs.Bake.{sooner, soonest-of, soonest, ticket-of}
 use Rattle.rule.proofs.Earliest.{soonest-is, soonest-none}
-use Rattle.rule.proofs.Tight.Counts.{AllInDate, in-date-all, part-at, fall-member}
+use Rattle.rule.proofs.Tight.Counts.{AllInDate, in-date-all, fall-member}
 use Rattle.rule.proofs.Tight.Slot.{tight-last, tight-last-is, mem-tight}
 use Rattle.books.specs.Book.{Beginning, Change, enter, end-slot, Book}
 use Rattle.books.specs.Rule.{valid, without}
@@ -33,7 +33,7 @@ soonest-tight s A p a e =
     let q = soonest-is A p e in
     let t = tight-last-is s A a (q .member) in
     let l = tight-last s A in
-    let r = fall-member A l (suc l) (omega (arith, t .present, part-at A l, part-at A (suc l))) in
+    let r = fall-member A l (suc l) (t .present) in
     mem-tight s A a (q .member) (omega (arith, q .sooner (r .0) (r .1) .last, r .3))
 
 least-kept : (d : ℕ) (b : Beginning) (past : List Change) (s h : ℕ) (left : List Job) → Left h left → Kept 0 d s left (least-last-choice d b past s left)

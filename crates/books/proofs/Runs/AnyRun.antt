@@ -8,7 +8,7 @@ use native.Mathlib.Omega.{arith}
 use lib.ListN.{take, length}
 use Rattle.lists.specs.Select.{one-if}
 use Rattle.heights.proofs.Heights.Part.{Part, _⊕_, Same, same-refl, same-sym, Out}
-use Rattle.heights.proofs.Schedule.Run.{AnyStep, Along, stop, next, FromOn, any-from-on, along-same, Schedule, sum}
+use Rattle.heights.proofs.Schedule.Run.{AnyStep, Along, stop, next, StepSame, any-step-same, along-same, Schedule, sum}
 use Rattle.heights.proofs.Items.Item.{Item, part, parts, part-append, part-out}
 use Rattle.rule.specs.Job.{Job}
 use Rattle.rule.specs.Bake.{ticket-of}
@@ -81,7 +81,7 @@ stays-part {s = s} {left} d x l e =
 
 -- a run along the parts that the groups of jobs make, if each step is one of the parts
 pub part-run : {test : ℕ → List Job → ℕ → Bool} {s : ℕ} {A : List Job} {Fs : List (List Job)} {os : List (Option Job)} (d : ℕ)
-    (Step : ℕ → Part → Part → ℕ → Type 0) → FromOn Step
+    (Step : ℕ → Part → Part → ℕ → Type 0) → StepSame Step
     → ((s x : ℕ) (A : List Job) → Named test s A x → Step s (part (items d A)) (part (items d (without (valid s A x) A))) (one-if (passes any (found s A x))))
     → JobRun test s A Fs os → Along Step s (part (items d A)) (parts (groups d Fs)) (ones os)
 unfolding groups ones
@@ -103,4 +103,4 @@ any-step d s x left l = go (found s left x) refl
 
 pub any-run : {test : ℕ → List Job → ℕ → Bool} {s : ℕ} {A : List Job} {Fs : List (List Job)} {os : List (Option Job)} (d : ℕ) → JobRun test s A Fs os
     → Schedule s (part (items d A)) (parts (groups d Fs)) (ones os)
-any-run d r = part-run d AnyStep any-from-on (λ s x A n. any-step d s x A (n .left)) r
+any-run d r = part-run d AnyStep any-step-same (λ s x A n. any-step d s x A (n .left)) r

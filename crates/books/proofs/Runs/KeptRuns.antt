@@ -9,7 +9,7 @@ use lib.ListN.{take}
 use Rattle.lists.specs.Select.{one-if, has, select}
 use Rattle.lists.proofs.Counting.{count-has}
 use Rattle.heights.proofs.Heights.TightSlot.{TightSlot, tight-same}
-use Rattle.heights.proofs.Schedule.Run.{TightStep, TightRun, tight-from-on}
+use Rattle.heights.proofs.Schedule.Run.{TightStep, TightRun, tight-step-same}
 use Rattle.heights.proofs.Trees.Tree.{join-tree, SameTree, same-tree-refl, same-tree-sym}
 use Rattle.heights.proofs.Trees.NoRegret.{NoRegret}
 use Rattle.heights.proofs.Trees.Run as R
@@ -19,7 +19,7 @@ use Rattle.heights.proofs.Items.Tree.{tree, total-tree, tree-append, slots}
 use Rattle.rule.specs.Job.{Job, in-date}
 use Rattle.rule.specs.Grade.{bits, graded}
 use Rattle.rule.specs.Descent.{no-regret-after}
-use Rattle.rule.proofs.Tight.Counts.{in-date-all, part-at}
+use Rattle.rule.proofs.Tight.Counts.{in-date-all}
 use Rattle.rule.proofs.Tight.Slot.{tight-last, tight-mem, in-date-tight}
 use Rattle.rule.proofs.NoRegret.Items.{items, items-count}
 use Rattle.rule.proofs.NoRegret.Order.{no-regret-leaves}
@@ -41,7 +41,7 @@ none-in-date d s left e = omega (arith, items-count d left s, count-has (in-date
 
 -- the tight slot of the jobs left
 pub tight-of : (d s : ℕ) (left : List Job) {p : Job} → List·Memᴰ p (select (in-date s) left) → TightSlot s (part (items d left)) (tight-last s (select (in-date s) left))
-tight-of d s left m = tight-same (record { is = λ n i. items-count d left n ∙ sym (part-at left n) }) (in-date-tight s left m)
+tight-of d s left m = tight-same (record { is = λ n i. items-count d left n }) (in-date-tight s left m)
 
 tight-step : (d s x : ℕ) (left : List Job) {h : ℕ} → Left h left → Kept 0 d s left x
     → TightStep s (part (items d left)) (part (items d (without (valid s left x) left))) (one-if (passes any (found s left x)))
@@ -56,7 +56,7 @@ tight-step d s x left l (bake p m e) =
 
 pub tight-run : {s : ℕ} {A : List Job} {Fs : List (List Job)} {os : List (Option Job)} (d : ℕ) → JobRun (keeps-at 0 d) s A Fs os
     → TightRun s (part (items d A)) (parts (groups d Fs)) (ones os)
-tight-run d r = part-run d TightStep tight-from-on (λ s x A n. tight-step d s x A (n .left) (kept 0 d s (n .h) A x (n .left) (n .pass))) r
+tight-run d r = part-run d TightStep tight-step-same (λ s x A n. tight-step d s x A (n .left) (kept 0 d s (n .h) A x (n .left) (n .pass))) r
 
 -- a job of order j leaves the tree
 pub leaves : (j d s h : ℕ) (left : List Job) (x : ℕ) (p : Job) → j ≤ d → Left h left → List·Memᴰ p (no-regret-after s d j (select (in-date s) left)) → found s left x ≡ some p

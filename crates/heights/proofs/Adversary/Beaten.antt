@@ -6,12 +6,11 @@ use mathlib.Core.Logic.{_⊎_, inl, inr, ⊎-elim}
 use mathlib.Core.List.{List, [], _∷_, _++_}
 use Prim.Native.Nat.{ℕ, zero, suc, _≤_, _<_}
 use native.Mathlib.Omega.{arith}
-use Rattle.heights.proofs.Heights.Reach.{alike-refl}
 use Rattle.heights.proofs.Heights.TightSlot.{TightSlot, tight-unique}
 use Rattle.heights.proofs.Sides.Tight.{chosen-within}
+use Rattle.heights.proofs.Sides.Ahead.{chosen-bit}
 use Rattle.heights.proofs.Trees.Tree.{Tree, total}
 use Rattle.heights.proofs.Trees.NoRegret.{Down, NoRegret, no-regret-tight}
-use Rattle.heights.proofs.Trees.Alike.{same-bit}
 use Rattle.heights.proofs.Trees.Run.{run-empty}
 use Rattle.heights.proofs.Trees.Flatten.{zero-bit}
 use Rattle.heights.proofs.Items.Item.{Each}
@@ -32,7 +31,7 @@ trapped ok (suc j) zero n L S A B w v h o T g f nt = absurd (omega arith)
 trapped ok (suc j) (suc d) n L S A B [] v h o T g f nt = absurd g
 trapped ok (suc j) (suc d) n L S A B (x ∷ w) [] h o T g f nt = absurd f
 trapped ok (suc j) (suc d) n L S A B (x ∷ w) (y ∷ v) h o T g f nt =
-    go (same-bit d S S x y (λ b. alike-refl n (total d (S b))) (g .chosen) (f .chosen)) f
+    go (chosen-bit x y (g .chosen) (f .chosen)) f
     (λ f'.
     let r = no-regret-tight j d n (S x) (A x) w (g .inner) in
     trapped (beyond x ok) j d n (r .slot) (S x) (A x) (B x) w v (omega arith) (o x) (r .tight) (g .inner) f'

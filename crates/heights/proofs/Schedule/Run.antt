@@ -34,19 +34,19 @@ sum [] = 0
 sum (k ∷ ks) = k + sum ks
 
 -- only the counts from n on matter to a step
-abbrev pub FromOn : (ℕ → Part → Part → ℕ → Type 0) → Type 0
-FromOn Step = (n k : ℕ) (R S T : Part) → Same n R S → Step n S T k → Step n R T k
+abbrev pub StepSame : (ℕ → Part → Part → ℕ → Type 0) → Type 0
+StepSame Step = (n k : ℕ) (R S T : Part) → Same n R S → Step n S T k → Step n R T k
 
-pub tight-from-on : FromOn TightStep
-tight-from-on n k R S T e (rest z s) = rest (omega (arith, e .is n (omega arith))) (same-trans (same-later (suc n) (omega arith) e) s)
-tight-from-on n k R S T e (take l p U o h) = take l p (tight-same e U) (out-same e o) h
+pub tight-step-same : StepSame TightStep
+tight-step-same n k R S T e (rest z s) = rest (omega (arith, e .is n (omega arith))) (same-trans (same-later (suc n) (omega arith) e) s)
+tight-step-same n k R S T e (take l p U o h) = take l p (tight-same e U) (out-same e o) h
 
-pub any-from-on : FromOn AnyStep
-any-from-on n k R S T e (rest s) = rest (same-trans (same-later (suc n) (omega arith) e) s)
-any-from-on n k R S T e (take p o) = take p (out-same e o)
+pub any-step-same : StepSame AnyStep
+any-step-same n k R S T e (rest s) = rest (same-trans (same-later (suc n) (omega arith) e) s)
+any-step-same n k R S T e (take p o) = take p (out-same e o)
 
 -- nor to a run
-pub along-same : {Step : ℕ → Part → Part → ℕ → Type 0} {n : ℕ} {R S : Part} {fs : List Part} {ks : List ℕ} → FromOn Step → Same n R S → Along Step n S fs ks
+pub along-same : {Step : ℕ → Part → Part → ℕ → Type 0} {n : ℕ} {R S : Part} {fs : List Part} {ks : List ℕ} → StepSame Step → Same n R S → Along Step n S fs ks
     → Along Step n R fs ks
 along-same f e stop = stop
 along-same {n = n} {R} {S} f e (next T k s r) = next T k (f n k R S T e s) r

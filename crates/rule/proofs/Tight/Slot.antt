@@ -24,7 +24,6 @@ unfolding laxity
 laxity-last now r h = omega arith
 
 tight-laxity-last : {now l : ℕ} {A : List Job} → AllInDate now A → TightLaxity now A l → (s : ℕ) → suc s ≡ now + l → SmallestExcess now (part A) s
-unfolding part
 tight-laxity-last {now} {l} {A} d T s e =
     let r = T .present .0 in
     let m = T .present .1 in
