@@ -3,7 +3,7 @@ use mathlib.Core.Path.{_≡_, refl, sym, ap, _∙_}
 use mathlib.Core.Bool.{true, false, cond}
 use mathlib.Core.Logic.{_⊎_, inl, inr, ⊎-elim}
 use mathlib.Core.Option.{Option, none, some}
-use mathlib.Core.List.{List, [], _∷_, List·Memᴰ, List·Memᴰ·append-cases}
+use mathlib.Core.List.{List, [], _∷_, List·Memᴰ, List·Memᴰ·not-nil, List·Memᴰ·append-cases}
 use Prim.Native.Nat.{ℕ, zero, suc, _+_, _≤_}
 use native.Mathlib.Omega.{arith}
 use lib.Dec.{eqb}
@@ -44,8 +44,7 @@ module _ (q : Rule) (d : ℕ) (b : Beginning) where
   picks-date : (P : Place) (es : List Change) → ((x : Job) → List·Memᴰ x (P .left) → x .admitted ≤ P .slot) → (i : ℕ) (r : Job)
       → getD (picks q d b P es) i none ≡ some r → (r .admitted ≤ P .slot + i) × (P .slot + i ≤ r .last)
   unfolding picks job
-  picks-date P [] f zero r e = let z : _≡_ {A = ℕ} 0 1 = cc in absurd (omega arith)
-  picks-date P [] f (suc i) r e = let z : _≡_ {A = ℕ} 0 1 = cc in absurd (omega arith)
+  picks-date P [] f i r e = absurd (List·Memᴰ·not-nil (getD-mem [] i r e))
   picks-date P (enter t w g ∷ es) f i r e =
       picks-date (entering P t w g) es (each-more (λ (x : Job). x .admitted ≤ P .slot) (P .left) f (omega arith)) i r e
   picks-date P (end-slot ∷ es) f zero r e =
@@ -60,8 +59,7 @@ module _ (q : Rule) (d : ℕ) (b : Beginning) where
   picks-once : {S : Setting} {h : ℕ} {P : Place} {es : List Change} → GoesOn S h P es → (i k : ℕ) (r x : Job) → getD (picks q d b P es) i none ≡ some r
       → getD (picks q d b P es) k none ≡ some x → r .ticket ≡ x .ticket → i ≡ k
   unfolding picks ticket-of
-  picks-once {es = []} g zero k r x e f z = let z : _≡_ {A = ℕ} 0 1 = cc in absurd (omega arith)
-  picks-once {es = []} g (suc i) k r x e f z = let z : _≡_ {A = ℕ} 0 1 = cc in absurd (omega arith)
+  picks-once {es = []} g i k r x e f z = absurd (List·Memᴰ·not-nil (getD-mem [] i r e))
   picks-once {es = enter t w n ∷ es} g i k r x e f z = picks-once (goes-enter g) i k r x e f z
   picks-once {S} {h} {P} {es = end-slot ∷ es} g i k r x e f z = go i k e f (λ a c m n. picks-once (goes-end y g) a c r x m n z)
     where

@@ -10,7 +10,7 @@ use native.Mathlib.Decide.{ℕ-discrete}
 use lib.Dec.{eqb}
 use lib.ListN.{getD}
 use borrow.Author.Tests.{eq-eqb, le-leb}
-use Rattle.lists.specs.Select.{one-if, has}
+use Rattle.lists.specs.Select.{has}
 use Rattle.lists.proofs.Tests.{never, and-intro}
 use Rattle.lists.proofs.Members.{mem-has}
 use Rattle.rule.specs.Job.{Job, job, in-date}
@@ -22,9 +22,8 @@ use Rattle.books.specs.Rival.{Setting, Tried}
 use Rattle.books.proofs.Walks.Place.{Place, start, entering, rest, closing, named}
 use Rattle.books.proofs.Walks.Groups.{closings-append}
 use Rattle.books.proofs.Walks.Tickets.{mem-without, without-mem-append}
-use Rattle.books.proofs.Walks.Left.{jobs-rising}
 use Rattle.books.proofs.Walks.Picks.{found, Search, search, picks}
-use Rattle.books.proofs.Schedules.Counts.{passes, tally, tally-none, tally-last, gives-job, picks-on}
+use Rattle.books.proofs.Schedules.Counts.{passes, tally, gives-as, baked-each, picks-on}
 
 -- the rule that follows a schedule
 unfoldable pub following : Schedule → Rule
@@ -130,10 +129,8 @@ module _ (S : Setting) (B : Book) (T : Tried S B) (p : Schedule) (P : IsSchedule
 
       now : gives test B p (Q .slot) ≡ passes test o
       now =
-          unfold gives in
-          (ap (λ t. has (λ r. eqb (r .ticket) t && test r) (jobs B)) (sym (found-ticket Q es W))
-          ∙ gives-job test (jobs B) o (jobs-rising S B T)
-          (λ r e. W .within r (Memᴰ·append-left (entered (Q .slot) (end-slot ∷ es)) (search (Q .slot) (Q .left) (picked Q) .is r e .mem))))
+          gives-as test p (Q .slot) o T (sym (found-ticket Q es W))
+          (λ r e. W .within r (Memᴰ·append-left (entered (Q .slot) (end-slot ∷ es)) (search (Q .slot) (Q .left) (picked Q) .is r e .mem)))
   each-slot test Q (end-slot ∷ es) W (suc i) h =
       ap (gives test B p) (let z : Q .slot + suc i ≡ suc (Q .slot) + i = omega arith in z)
       ∙ each-slot test (closing Q (picked Q)) es (walk-end Q es W) i (omega arith)
@@ -143,12 +140,5 @@ module _ (S : Setting) (B : Book) (T : Tried S B) (p : Schedule) (P : IsSchedule
 
   -- what the schedule bakes is what the rule bakes
   pub realised : (test : Job → Bool) (k : ℕ) → k ≤ slots-closed B → baked-in test B p k ≡ tally test (picks-on (following p) d B) k
-  unfolding baked-in
-  realised test zero h = sym (tally-none test (picks-on (following p) d B))
-  realised test (suc k) h =
-      omega (
-        arith,
-        realised test k (omega arith),
-        tally-last test (picks-on (following p) d B) k,
-        ap one-if (each-slot test (start b) (B .changes) first k (unfold slots-closed in h)),
-      )
+  realised test k h =
+      baked-each test B p (picks-on (following p) d B) k (λ i l. each-slot test (start b) (B .changes) first i (unfold slots-closed in (omega arith)))

@@ -2,10 +2,9 @@
 use mathlib.Core.Path.{_≡_, refl, sym, ap, ap₂, _∙_, subst}
 use mathlib.Core.Bool.{Bool, true, false, cond, _&&_, _||_}
 use mathlib.Core.Logic.{_⊎_, inl, inr}
-use mathlib.Core.Option.{Option, none, some}
+use mathlib.Core.Option.{Option, none, some, Option·none-ne-some, Option·some-ne-none}
 use mathlib.Core.List.{List, [], _∷_, _++_, map, append-assoc, List·Memᴰ, List·Memᴰ·head, List·Memᴰ·tail, Memᴰ·append-left}
 use Prim.Native.Nat.{ℕ, suc, _≤_}
-use native.Mathlib.Omega.{arith}
 use lib.Dec.{leb, eqb}
 use borrow.Author.Tests.{leb-true, eqb-true}
 use Rattle.lists.specs.Select.{has}
@@ -35,10 +34,7 @@ pub record Search (s : ℕ) (L : List Job) (t : ℕ) (o : Option Job) : Type 0 w
 
 pub search : (s : ℕ) (L : List Job) (t : ℕ) → Search s L t (found s L t)
 unfolding found valid has ticket-of in-date
-search s [] t = record { is = λ r e. absurd (Option·none-some e); named = refl; has-it = λ e. refl }
-  where
-    Option·none-some : {r : Job} → _≡_ {A = Option Job} none (some r) → ⊥
-    Option·none-some e = let z : _≡_ {A = ℕ} 0 1 = cc in omega arith
+search s [] t = record { is = λ r e. absurd (Option·none-ne-some r e); named = refl; has-it = λ e. refl }
 search s (x ∷ L) t = go (test (eqb (x .ticket) t && leb s (x .last))) (search s L t)
   where
     c : Bool
@@ -61,7 +57,7 @@ search s (x ∷ L) t = go (test (eqb (x .ticket) t && leb s (x .last))) (search 
               };
           named =
               ap (λ b. cond (b || rest) t 0) h ∙ sym (eqb-true (x .ticket) t (and-left (eqb (x .ticket) t) (leb s (x .last)) h));
-          has-it = λ e. let z : _≡_ {A = ℕ} 0 1 = cc in absurd (omega arith);
+          has-it = λ e. absurd (Option·some-ne-none x e);
         })
     go (inr h) k =
         subst (λ (o : Option Job). Search s (x ∷ L) t o) (sym (cond-false c (some x) (found s L t) h))

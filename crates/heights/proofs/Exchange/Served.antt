@@ -51,24 +51,22 @@ module _ (fs : List (Slot Sides)) (F : Sides) (ahead : AheadNoLess fs) (exchange
       let p' : SideTake n P R' false = earliest-take false p (f .1) (a .1) kp in
       let g = good-run fs (suc n) (join R' F) in
       let gj : g .0 ≤ j = as-well false (g .0) j C p' p (g .1) gp in
-      let instead : (i : ℕ) (h : EarliestSlot n (Q false) i) → (B : Part) × Out n i (Q false) B × SideTake n Q (pair B (Q true)) false =
-      λ i h. let b = take-out n i (Q false) (h .date) (h .present) in (b .0, b .1, earliest-take false q h (b .1) kq)
+      -- Q takes the earliest job i instead, and the exchange goes on with z
+      let instead : (i : ℕ) → EarliestSlot n (Q false) i → (z : ℕ) → ((B : Part) → Out n i (Q false) B → Exchanged (suc n) z y R' (pair B (Q true))) → k ≤ suc j =
+      λ i h z f.
+      let b = take-out n i (Q false) (h .date) (h .present) in
+      let S' = pair (b .0) (Q true) in
+      let r = good-run fs (suc n) (join S' F) in
+      omega (
+        arith,
+        as-well false k (r .0) D q (earliest-take {T = S'} false q h (b .1) kq) gq (r .1),
+        exchange (suc n) z y (join R' F) (join S' F) (g .0) (r .0) (exchange-join F (f (b .0) (b .1))) (g .1) (r .1),
+      )
       in
       ⊎-elim
-      (λ (i : e ≤ x).
-      let b = instead e (earliest-e E (f .1) i) in
-      let S' = pair (b .0) (Q true) in
-      let h = good-run fs (suc n) (join S' F) in
-      let kh : k ≤ h .0 = as-well false k (h .0) D q (b .2) gq (h .1) in
-      let E' : Exchanged (suc n) x y R' S' = both-take E nx (C .tight) (f .1) el i (a .1) kp (b .1) kq in
-      omega (arith, exchange (suc n) x y (join R' F) (join S' F) (g .0) (h .0) (exchange-join F E') (g .1) (h .1)))
+      (λ (i : e ≤ x). instead e (earliest-e E (f .1) i) x (λ B o. both-take E nx (C .tight) (f .1) el i (a .1) kp o kq))
       (λ (i : x < e).
-      let b = instead x (earliest-x E nx (omega (arith, f .1 .same x nx (omega arith)))) in
-      let S' = pair (b .0) (Q true) in
-      let h = good-run fs (suc n) (join S' F) in
-      let kh : k ≤ h .0 = as-well false k (h .0) D q (b .2) gq (h .1) in
-      let E' : Exchanged (suc n) e y R' S' = x-moves E nx (C .tight) (f .1) el i (a .1) kp (b .1) kq in
-      omega (arith, exchange (suc n) e y (join R' F) (join S' F) (g .0) (h .0) (exchange-join F E') (g .1) (h .1)))
+      instead x (earliest-x E nx (omega (arith, f .1 .same x nx (omega arith)))) e (λ B o. x-moves E nx (C .tight) (f .1) el i (a .1) kp o kq))
       (cmp e x)
 
   -- P takes a 1-job, Q a 0-job: P is ahead

@@ -1,9 +1,9 @@
 -- The no-regret set lies in the list, and is empty only with it. So a job is baked from every list but the empty one, and it is a no-regret job.
-use mathlib.Core.Path.{_≡_, refl, ap, _∙_}
+use mathlib.Core.Path.{_≡_, refl, ap, _∙_, sym}
 use mathlib.Core.Bool.{Bool, true, false, not}
 use mathlib.Core.Logic.{_⊎_, inl, inr}
 use mathlib.Core.List.{List, [], _∷_, _++_, List·Memᴰ, List·Memᴰ·head}
-use mathlib.Core.Option.{none, some}
+use mathlib.Core.Option.{none, some, Option·some-ne-none}
 use Prim.Native.Nat.{ℕ, zero, suc, _+_, _≤_, _<_}
 use native.Mathlib.Omega.{arith}
 use lib.Dec.{leb}
@@ -99,4 +99,4 @@ baked-some now d A m = soonest-some (no-regret now d A) (after-some now d d A (o
 
 pub baked-none : (now d : ℕ) (A : List Job) → baked now d A ≡ none → A ≡ []
 baked-none now d [] e = refl
-baked-none now d (r ∷ A) e = let s = baked-some now d (r ∷ A) (List·Memᴰ·head refl) in let z : _≡_ {A = ℕ} 0 1 = cc (s .1) in absurd (omega arith)
+baked-none now d (r ∷ A) e = let s = baked-some now d (r ∷ A) (List·Memᴰ·head refl) in absurd (Option·some-ne-none (s .0) (sym (s .1) ∙ e))
