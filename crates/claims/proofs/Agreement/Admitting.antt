@@ -22,7 +22,7 @@ use Rattle.board.proofs.Calls.SoundAfter.{admit-number-sound, with-job-sound}
 use Rattle.books.proofs.Walks.Extended.{present-entered, highest-entered, jobs-entered}
 use Rattle.claims.proofs.Agreement.Agree.{Agree}
 
-module _ (d s : ℕ) (b : Board) (B : Book) (left : List Job) (a : Agree d s b B left) (t w g : ℕ) (e : admit-number b t w g ≡ 0) where
+module _ {d s : ℕ} {b : Board} {B : Book} {left : List Job} (a : Agree d s b B left) (t w g : ℕ) (e : admit-number b t w g ≡ 0) where
   rows : Admits (slot-of b) (b .highest) (in-slot b) (b .depth) t w g
   rows = admits (slot-of b) (b .highest) (in-slot b) (b .depth) t w g (sym (admit-number-sound b t w g (a .is-sound)) ∙ e)
 
