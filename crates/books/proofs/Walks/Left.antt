@@ -5,10 +5,10 @@ use mathlib.Core.List.{List, [], _∷_, _++_, List·Memᴰ}
 use Prim.Native.Nat.{ℕ, suc, _≤_, _<_}
 use native.Mathlib.Omega.{arith}
 use lib.Dec.{ltb, leb, eqb}
-use borrow.Author.Tests.{ltb-true, leb-true}
+use borrow.Author.Tests.{ltb-true, leb-true, lt-ltb, le-leb}
 use Rattle.lists.specs.Select.{every}
 use Rattle.lists.specs.Rise.{rise}
-use Rattle.lists.proofs.Tests.{and-left, and-right}
+use Rattle.lists.proofs.Tests.{and-left, and-right, and-intro}
 use Rattle.lists.proofs.Members.{every-mem, each-more}
 use Rattle.rule.specs.Job.{Job, job}
 use Rattle.books.specs.Book.{Beginning, Change, enter, end-slot, Book, entered, jobs}
@@ -36,6 +36,13 @@ enters S h t w g es e =
       fits = and-right (a && b) c abc;
       later = and-right (a && b && c) r e;
     }
+
+-- and put together
+pub enter-lifted : (S : Setting) (h t w g : ℕ) (es : List Change) → h < t → 1 ≤ w → fit S g ≡ true → lifted S t es ≡ true → lifted S h (enter t w g ∷ es) ≡ true
+unfolding lifted any-laxity
+enter-lifted S h t w g es a l f e =
+    and-intro (ltb h t && any-laxity w && fit S g) (lifted S t es)
+    (and-intro (ltb h t && any-laxity w) (fit S g) (and-intro (ltb h t) (any-laxity w) (lt-ltb h t a) (le-leb 1 w l)) f) e
 
 pub ends : (S : Setting) (h : ℕ) (es : List Change) → lifted S h (end-slot ∷ es) ≡ true → lifted S h es ≡ true
 unfolding lifted

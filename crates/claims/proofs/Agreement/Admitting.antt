@@ -9,31 +9,23 @@ use Rattle.lists.specs.Select.{select}
 use Rattle.lists.proofs.Members.{each-more, select-append, select-yes}
 use Rattle.lists.proofs.Counting.{count-append}
 use Rattle.rule.specs.Job.{Job, job, in-date}
-use Rattle.books.specs.Book.{enter, Book, highest, jobs, extend}
+use Rattle.books.specs.Book.{enter, Book, jobs, extend}
 use Rattle.board.specs.declared.Board.{Board}
-use Rattle.board.specs.Held.{slot-of, held, in-slot}
+use Rattle.board.specs.Held.{held}
 use Rattle.board.specs.Admit.{admit-number, with-job}
 use Rattle.board.proofs.Soundness.Facts.{admitted-in}
-use Rattle.board.proofs.Soundness.Apart.{facts}
-use Rattle.board.proofs.Soundness.FreePlace.{room}
-use Rattle.board.proofs.Calls.Rows.{Admits, admits}
-use Rattle.board.proofs.Calls.HeldAfter.{held-with-job}
-use Rattle.board.proofs.Calls.SoundAfter.{admit-number-sound, with-job-sound}
+use Rattle.board.proofs.Calls.SoundAfter.{with-job-sound}
 use Rattle.books.proofs.Walks.Extended.{present-entered, highest-entered, jobs-entered}
+use Rattle.claims.proofs.Admitted.{taken-rows, held-taken}
 use Rattle.claims.proofs.Agreement.Agree.{Agree}
 
 module _ {d s : ℕ} {b : Board} {B : Book} {left : List Job} (a : Agree d s b B left) (t w g : ℕ) (e : admit-number b t w g ≡ 0) where
-  rows : Admits (slot-of b) (b .highest) (in-slot b) (b .depth) t w g
-  rows = admits (slot-of b) (b .highest) (in-slot b) (b .depth) t w g (sym (admit-number-sound b t w g (a .is-sound)) ∙ e)
-
   new-job : Job
   new-job = job t s w g
 
   new-held : held (with-job b t w g) ≡ held b ++ (new-job ∷ [])
   unfolding new-job
-  new-held =
-      let f = facts b (a .is-sound) in
-      held-with-job b t w g (omega (arith, f .full, room b f (rows .room))) ∙ ap (λ k. held b ++ (job t k w g ∷ [])) (a .slot)
+  new-held = held-taken b t w g (a .is-sound) e ∙ ap (λ k. held b ++ (job t k w g ∷ [])) (a .slot)
 
   new-jobs : jobs (extend B (enter t w g)) ≡ jobs B ++ (new-job ∷ [])
   unfolding new-job
@@ -53,7 +45,7 @@ module _ {d s : ℕ} {b : Board} {B : Book} {left : List Job} (a : Agree d s b B
 
   dated : select (in-date s) (new-job ∷ []) ≡ new-job ∷ []
   unfolding in-date new-job job select
-  dated = select-yes (in-date s) new-job [] (le-leb s (s + w - 1) (omega (arith, rows .some-laxity)))
+  dated = select-yes (in-date s) new-job [] (le-leb s (s + w - 1) (omega (arith, taken-rows b t w g (a .is-sound) e .some-laxity)))
 
   pub agree-admitted : Agree d s (with-job b t w g) (extend B (enter t w g)) (left ++ (job t s w g ∷ []))
   unfolding with-job new-job job
