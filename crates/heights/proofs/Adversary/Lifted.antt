@@ -1,5 +1,5 @@
 -- A trap on side b, the side chosen, is a trap with the bit b in front.
-use mathlib.Core.Path.{_≡_, ap}
+use mathlib.Core.Path.{_≡_, sym, ap, subst}
 use mathlib.Core.Bool.{Bool, true, false, not, false≢true}
 use mathlib.Core.List.{List, _∷_, _++_}
 use Prim.Native.Nat.{ℕ, suc, _≤_}
@@ -7,17 +7,17 @@ use native.Mathlib.Omega.{arith}
 use Rattle.heights.proofs.Heights.TightSlot.{TightSlot, tight-unique}
 use Rattle.heights.proofs.Sides.Board.{Sides, whole}
 use Rattle.heights.proofs.Sides.Tight.{Chosen}
-use Rattle.heights.proofs.Trees.Tree.{Tree, total, sides, join-tree, total-same}
+use Rattle.heights.proofs.Trees.Tree.{Tree, total, sides, join-tree}
 use Rattle.heights.proofs.Trees.NoRegret.{Down, NoRegret, no-regret-whole}
 use Rattle.heights.proofs.Trees.Run.{starts-here, Count, Run}
 use Rattle.heights.proofs.Trees.Flatten.{zero-bit}
 use Rattle.heights.proofs.Items.Item.{part}
 use Rattle.heights.proofs.Items.Tree.{tree, slots}
-use Rattle.heights.proofs.Items.Lift.{lift-count, arrive, arrive-here, arrive-other, arrive-whole}
+use Rattle.heights.proofs.Items.Lift.{lift-count, arrive, arrive-here, arrive-whole}
 use Rattle.heights.proofs.Adversary.Allowed.{Grades, beyond}
 use Rattle.heights.proofs.Adversary.Arrivals.{lift-arrivals, lift-all, lift-length, lift-by}
 use Rattle.heights.proofs.Adversary.Pinned.{stuffed-start, pinned-start}
-use Rattle.heights.proofs.Adversary.Held.{Held, down, restrict}
+use Rattle.heights.proofs.Adversary.Held.{clean-next, Held, down, restrict}
 use Rattle.heights.proofs.Adversary.Trap.{Trap, Behind}
 
 chosen-clean : {n l : ℕ} {S : Sides} (b : Bool) → Chosen n l S b → b ≡ true → S (not b) .at (suc l) ≡ S (not b) .at n
@@ -32,9 +32,6 @@ module _ (ok : Grades) (j d n L K : ℕ) (b : Bool) (S A B : Tree (suc d)) (w v 
   held i X x g =
       let F = t .answer .by .first in
       let o = no-regret-whole (suc i) d n S X (b ∷ x) (unfold NoRegret in g) in
-      let k = total-same d (suc n) (S (not b)) (X (not b)) (g .kept) in
-      let z = total d (S (not b)) in
-      let e = tight-unique T (g .chosen .tight) in
       record {
         pinned =
             pinned-start (part F) (whole (sides d (arrive d b X F))) T o (t .date) (omega (arith, t .upto)) (t .stuffs) (t .first-by)
@@ -42,19 +39,8 @@ module _ (ok : Grades) (j d n L K : ℕ) (b : Bool) (S A B : Tree (suc d)) (w v 
         stuffed = stuffed-start (total d (X b)) (part F) (total d (arrive d b X F b)) (t .stuffs) (t .first-by) (arrive-here d b X F);
         clean =
             λ h.
-            omega (
-              arith,
-              T .date,
-              chosen-clean b (g .chosen) h,
-              arrive-other d b X F (suc n),
-              arrive-other d b X F (suc L),
-              k .is (suc n) (omega arith),
-              k .is (suc L) (omega (arith, T .date)),
-              z .anti n (suc n) (omega arith),
-              z .anti (suc n) (suc L) (omega (arith, T .date)),
-              z .anti (suc L) (suc (g .slot)) (omega arith),
-              z .anti (suc (g .slot)) (suc L) (omega arith),
-            );
+            clean-next d b S X F (T .date) (g .kept)
+            (subst (λ l. total d (S (not b)) .at n ≡ total d (S (not b)) .at (suc l)) (sym (tight-unique T (g .chosen .tight))) (sym (chosen-clean b (g .chosen) h)));
       }
 
   on-side : (i : ℕ) (X : Tree (suc d)) (x : List Bool) (c : Count) → Down d n S X b (NoRegret i d n (S b) (X b) x)
