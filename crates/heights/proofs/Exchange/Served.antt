@@ -16,7 +16,7 @@ use Rattle.heights.proofs.Sides.Ahead.{Ahead, ahead-refl, ahead-join}
 use Rattle.heights.proofs.Sides.Run.{GoodStep, GoodRun, good-run}
 use Rattle.heights.proofs.Exchange.Condition.{Exchanged, exchange-forth, exchange-back}
 use Rattle.heights.proofs.Exchange.Later.{exchange-join}
-use Rattle.heights.proofs.Exchange.Earliest.{earliest-e, earliest-x, earliest-m}
+use Rattle.heights.proofs.Exchange.Earliest.{earliest-more, earliest-one}
 use Rattle.heights.proofs.Exchange.BothZero.{both-take}
 use Rattle.heights.proofs.Exchange.Moved.{x-moves}
 use Rattle.heights.proofs.Exchange.ZeroOne.{ones-ahead, zeros-ahead-x, zeros-ahead-e}
@@ -64,9 +64,9 @@ module _ (fs : List (Slot Sides)) (F : Sides) (ahead : AheadNoLess fs) (exchange
       )
       in
       ⊎-elim
-      (λ (i : e ≤ x). instead e (earliest-e E (f .1) i) x (λ B o. both-take E nx (C .tight) (f .1) el i (a .1) kp o kq))
+      (λ (i : e ≤ x). instead e (earliest-more (E .x-more) (f .1) i) x (λ B o. both-take E nx (C .tight) (f .1) el i (a .1) kp o kq))
       (λ (i : x < e).
-      instead x (earliest-x E nx (omega (arith, f .1 .same x nx (omega arith)))) e (λ B o. x-moves E nx (C .tight) (f .1) el i (a .1) kp o kq))
+      instead x (earliest-one (E .x-more) nx (omega (arith, f .1 .same x nx (omega arith)))) e (λ B o. x-moves E nx (C .tight) (f .1) el i (a .1) kp o kq))
       (cmp e x)
 
   -- P takes a 1-job, Q a 0-job: P is ahead
@@ -99,11 +99,11 @@ module _ (fs : List (Slot Sides)) (F : Sides) (ahead : AheadNoLess fs) (exchange
           omega (arith, ahead (suc n) (join R F) (join S' F) j (h .0) (ahead-join F A) gp (h .1))
 
       pick : (P false .at n ≤ P false .at x) ⊎ (P false .at x < P false .at n) → k ≤ j
-      pick (inl h) = instead x (earliest-x E nx h) (λ B b em. zeros-ahead-x E (p .kept) b)
+      pick (inl h) = instead x (earliest-one (E .x-more) nx h) (λ B b em. zeros-ahead-x E (p .kept) b)
       pick (inr h) =
           let f = earliest n (P false) (omega arith) in
           let ex : f .0 ≤ x = omega (arith, earliest-le x (f .1) (omega (arith, P false .anti x (suc x) (omega arith)))) in
-          instead (f .0) (earliest-e E (f .1) ex)
+          instead (f .0) (earliest-more (E .x-more) (f .1) ex)
           (λ B b em. zeros-ahead-e R (pair B (Q true)) E (C .tight) (C .pick) (p .out) pl (p .kept) (D .tight) (f .1) ex b em kq)
 
   -- both take a 1-job
@@ -118,7 +118,7 @@ module _ (fs : List (Slot Sides)) (F : Sides) (ahead : AheadNoLess fs) (exchange
       let S' = pair (Q false) (b .0) in
       let q' : SideTake n Q S' true = earliest-take true q (f .1) (b .1) kq in
       let em : e ≤ m = omega (arith, earliest-le (q .slot) (f .1) (tight-fall (q .tight)), chosen-within true D (q .tight)) in
-      let pf = earliest-m E (f .1) (omega (arith, em, y-beyond E nx (D .tight) (D .pick))) in
+      let pf = earliest-more (E .y-more) (f .1) (omega (arith, em, y-beyond E nx (D .tight) (D .pick))) in
       let a = take-out n e (P true) (pf .date) (pf .present) in
       let R' = pair (P false) (a .0) in
       let p' : SideTake n P R' true = earliest-take {T = R'} true p pf (a .1) kp in

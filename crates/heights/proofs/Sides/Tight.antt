@@ -5,33 +5,33 @@ use mathlib.Core.Bool.{Bool, true, false, not}
 use mathlib.Core.Logic.{⊎-elim}
 use Prim.Native.Nat.{ℕ, suc, _≤_, _<_}
 use native.Mathlib.Omega.{arith}
-use Rattle.heights.proofs.Heights.Part.{Part, _⊕_, Same, Out, cmp, not-above}
-use Rattle.heights.proofs.Heights.TightSlot.{TightSlot, tight-swap, tight-fall, tight-same}
+use Rattle.heights.proofs.Heights.Part.{Part, Same, Out, cmp, not-above}
+use Rattle.heights.proofs.Heights.TightSlot.{TightSlot, tight-fall, tight-same}
 use Rattle.heights.proofs.Heights.Exists.{tight-slot}
-use Rattle.heights.proofs.Sides.Board.{Sides, whole, SameSides, whole-same}
-
-inner-first : {n l m : ℕ} (A B : Part) → TightSlot n (A ⊕ B) l → A .at (suc l) < A .at n → TightSlot n A m → m ≤ l
-inner-first {n} {l} {m} A B T f U =
-    not-above m l (λ h. omega (arith, U .upto (suc l) (omega (arith, T .date)) h f, T .past (suc m) (omega arith), B .anti (suc l) (suc m) (omega arith)))
-
-other-second : {n l : ℕ} (A B : Part) → TightSlot n (A ⊕ B) l → A .at (suc l) ≡ A .at n → TightSlot n B l
-other-second {n} {l} A B T f =
-    record {
-      date = T .date;
-      present = omega (arith, T .present, A .anti n l (T .date));
-      past = λ s h. omega (arith, T .past s h, A .anti (suc l) s h);
-      upto = λ s h j g. omega (arith, T .upto s h j (omega (arith, A .anti n s h)), A .anti n s h);
-    }
+use Rattle.heights.proofs.Sides.Board.{whole-at, Sides, whole, SameSides, whole-same}
 
 -- a tight job is on side b: the tight slot of the side is no later (D1)
 pub inner-tight : {n l m : ℕ} (b : Bool) (S : Sides) → TightSlot n (whole S) l → S b .at (suc l) < S b .at n → TightSlot n (S b) m → m ≤ l
-inner-tight false S T f U = inner-first (S false) (S true) T f U
-inner-tight true S T f U = inner-first (S true) (S false) (tight-swap (S false) (S true) T) f U
+inner-tight {n} {l} {m} b S T f U =
+    not-above m l (λ h. omega (
+      arith,
+      U .upto (suc l) (omega (arith, T .date)) h f,
+      T .past (suc m) (omega arith),
+      S (not b) .anti (suc l) (suc m) (omega arith),
+      whole-at b S (suc l),
+      whole-at b S (suc m),
+    ))
 
 -- no tight job is on side b: the other side has the same tight slot (D2)
 pub other-tight : {n l : ℕ} (b : Bool) (S : Sides) → TightSlot n (whole S) l → S b .at (suc l) ≡ S b .at n → TightSlot n (S (not b)) l
-other-tight false S T f = other-second (S false) (S true) T f
-other-tight true S T f = other-second (S true) (S false) (tight-swap (S false) (S true) T) f
+other-tight {n} {l} b S T f =
+    let at = whole-at b S in
+    record {
+      date = T .date;
+      present = omega (arith, T .present, S b .anti n l (T .date), at l, at (suc l));
+      past = λ s h. omega (arith, T .past s h, S b .anti (suc l) s h, at s, at (suc l));
+      upto = λ s h j g. omega (arith, T .upto s h j (omega (arith, S b .anti n s h, at s, at n)), S b .anti n s h, at s, at (suc l));
+    }
 
 -- x is the count past the tight slot and y the count now, of the 0-side: false is picked if a tight job is there
 abbrev pub Pick : Bool → ℕ → ℕ → Type 0
