@@ -1,6 +1,5 @@
 pub mod Future
-pub mod Lockstep
 pub mod Stage
-pub mod Cut
+pub mod Allowed
 pub mod Turning
 pub mod RunOn

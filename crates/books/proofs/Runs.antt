@@ -1,4 +1,5 @@
 pub mod Kept
+pub mod JobRun
 pub mod AnyRun
 pub mod KeptRuns
 pub mod Unbeaten

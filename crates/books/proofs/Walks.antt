@@ -1,9 +1,11 @@
+pub mod Place
 pub mod ByChoice
 pub mod Groups
 pub mod Tickets
 pub mod Without
 pub mod Left
 pub mod Picks
+pub mod GoesOn
 pub mod Positions
 pub mod Closings
 pub mod Extended

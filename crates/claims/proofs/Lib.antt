@@ -1,4 +1,5 @@
 pub mod SoundKept
+pub mod Admitted
 pub mod Agreement
 pub mod Drawing
 pub mod Tallying

@@ -2,11 +2,5 @@
 pub mod Item
 pub mod Side
 pub mod Tree
-pub mod Start
 pub mod Lift
-pub mod FromSide
-pub mod Find
-pub mod Total
 pub mod Both
-pub mod Run
-pub mod Play

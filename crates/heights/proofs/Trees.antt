@@ -2,10 +2,7 @@
 pub mod Tree
 pub mod NoRegret
 pub mod Run
-pub mod Exists
 pub mod Alike
 pub mod Project
-pub mod Starts
 pub mod Flatten
 pub mod Better
-pub mod Decide

@@ -2,7 +2,7 @@
 use mathlib.Core.Path.{_≡_, refl, sym, ap, ap₂, _∙_, subst}
 use mathlib.Core.Bool.{Bool, true, false, _&&_, _||_, cond}
 use mathlib.Core.Logic.{_⊎_, inl, inr}
-use mathlib.Core.List.{List, [], _∷_, _++_, List·Memᴰ, List·Memᴰ·head, List·Memᴰ·tail, List·Memᴰ·cases-cons, List·Memᴰ·not-nil}
+use mathlib.Core.List.{List, [], _∷_, _++_, List·Memᴰ, List·Memᴰ·head, List·Memᴰ·tail, List·Memᴰ·cases-cons, List·Memᴰ·not-nil, List·Memᴰ·append-cases, List·Memᴰ·eq-of-singleton}
 use Prim.Native.Nat.{ℕ, zero, suc, _≤_, _<_}
 use native.Mathlib.Omega.{arith}
 use lib.Dec.{leb}
@@ -142,3 +142,11 @@ take-mem [] n i d h k = absurd (omega arith)
 take-mem (a ∷ l) zero i d h k = absurd (omega arith)
 take-mem (a ∷ l) (suc n) zero d h k = List·Memᴰ·head refl
 take-mem (a ∷ l) (suc n) (suc i) d h k = List·Memᴰ·tail (take-mem l n i d (omega arith) (omega arith))
+
+-- what holds of each member and of one element more holds of each member of the longer list
+pub each-more : {A : Type 0} (P : A → Type 0) (l : List A) {a : A} → ((x : A) → List·Memᴰ x l → P x) → P a → (x : A) → List·Memᴰ x (l ++ (a ∷ [])) → P x
+each-more P l {a} f h x m =
+    elim (List·Memᴰ·append-cases l m) [
+      | inl k ↦ f x k
+      | inr k ↦ subst P (sym (List·Memᴰ·eq-of-singleton k)) h
+    ]

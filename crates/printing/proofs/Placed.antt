@@ -1,14 +1,12 @@
 -- Laws of a line put into a buffer, whole or not at all.
-use mathlib.Core.Bool.{true, false}
-use mathlib.Core.Logic.{⊎-elim}
+use mathlib.Core.Bool.{true}
 use mathlib.Core.Path.{_≡_, ap, _∙_}
-use Prim.Native.Nat.{ℕ, _+_, _-_, _≤_, _<_}
-use native.Mathlib.Omega.{arith}
+use Prim.Native.Nat.{ℕ, _+_, _-_, _≤_}
 use borrow.Author.Tests.{leb-true, le-leb}
 use lib.Dec.{leb}
 use lib.ListN.{length, take, replicate}
 use lib.Seq.{take-append-seam}
-use Rattle.lists.proofs.Tests.{and-left, and-right, and-intro, cond-true, cond-false, test}
+use Rattle.lists.proofs.Tests.{and-left, and-right, and-intro, cond-true}
 use Rattle.lines.specs.Bytes.{Bytes}
 use Rattle.printing.specs.declared.Line.{Line}
 use Rattle.printing.specs.Lines.{put, room, line-of, line-fits, with-line, end-after}
@@ -47,19 +45,3 @@ module _ (out : Bytes) (at : ℕ) (bs : Bytes) (h : length bs ≤ room) (k : at 
   pub whole-end : end-after out at (line-of bs) ≡ at + length bs
   unfolding line-of
   whole-end = end-placed out at (line-of bs) h k
-
-module _ (out : Bytes) (at : ℕ) (l : Line) (h : length out < at + l .len) where
-  outside : line-fits (l .len) at (length out) ≡ false
-  outside =
-      ⊎-elim
-      (λ t. let f = fits-apart (l .len) at (length out) t in absurd (omega arith))
-      (λ f. f)
-      (test (line-fits (l .len) at (length out)))
-
-  pub line-left-out : with-line out at l ≡ out
-  unfolding with-line
-  line-left-out = cond-false _ _ _ outside
-
-  pub end-left-out : end-after out at l ≡ at
-  unfolding end-after
-  end-left-out = cond-false _ _ _ outside

@@ -3,8 +3,8 @@ use mathlib.Core.Path.{_≡_, refl, sym, subst}
 use mathlib.Core.Bool.{true, false, _&&_, cond}
 use mathlib.Core.Logic.{_⊎_, inl, inr, ⊎-elim}
 use mathlib.Core.List.{List, [], _∷_, List·Memᴰ, List·Memᴰ·head, List·Memᴰ·tail, List·Memᴰ·cases-cons, List·Memᴰ·not-nil}
-use mathlib.Core.Option.{none, some}
-use Prim.Native.Nat.{ℕ, _≤_}
+use mathlib.Core.Option.{none, some, Option·none-ne-some, Option·some-ne-none}
+use Prim.Native.Nat.{_≤_}
 use native.Mathlib.Omega.{arith}
 use lib.Dec.{leb, ltb, eqb}
 use borrow.Author.Tests.{leb-true, leb-false, ltb-true, ltb-false, eqb-true, eqb-false}
@@ -82,17 +82,13 @@ soonest-found r (x ∷ A) = soonest-more r (x ∷ A) (soonest-of x (soonest A)) 
 
 pub soonest-is : (A : List Job) (q : Job) → soonest A ≡ some q → SoonestOf A q
 unfolding soonest
-soonest-is [] q e = let z : _≡_ {A = ℕ} 0 1 = cc in absurd (omega arith)
+soonest-is [] q e = absurd (Option·none-ne-some q e)
 soonest-is (r ∷ A) q e = let f : soonest-of r (soonest A) ≡ q = cc in subst (SoonestOf (r ∷ A)) f (soonest-found r A)
 
 pub soonest-none : (A : List Job) → soonest A ≡ none → A ≡ []
 unfolding soonest
 soonest-none [] e = refl
-soonest-none (r ∷ A) e = let z : _≡_ {A = ℕ} 0 1 = cc in absurd (omega arith)
-
-pub soonest-nil : soonest [] ≡ none
-unfolding soonest
-soonest-nil = refl
+soonest-none (r ∷ A) e = absurd (Option·some-ne-none (soonest-of r (soonest A)) e)
 
 pub soonest-some : (A : List Job) {r : Job} → List·Memᴰ r A → (q : Job) × (soonest A ≡ some q)
 unfolding soonest

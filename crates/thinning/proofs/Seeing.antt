@@ -2,20 +2,15 @@
 use mathlib.Core.Path.{_≡_, refl, sym}
 use mathlib.Core.Bool.{true, false}
 use mathlib.Core.Logic.{_⊎_, inl, inr}
-use mathlib.Core.List.{List, [], _∷_, List·Memᴰ, List·Memᴰ·head, List·Memᴰ·tail}
-use Prim.Native.Nat.{ℕ, _/_, _^_, _≤_, _<_}
-use native.Mathlib.Nat.{div-eq-of-lt, lt-div-mul-add}
-use native.Mathlib.Omega.{arith}
+use mathlib.Core.List.{List·Memᴰ·head, List·Memᴰ·tail}
+use Prim.Native.Nat.{ℕ, _^_, _≤_, _<_}
 use lib.Dec.{ltb}
-use lib.Pow.{pow-pos}
-use borrow.Author.Tests.{leb-true, le-leb, ltb-true, lt-ltb, eqb-true, eq-eqb}
+use borrow.Author.Tests.{leb-true, le-leb, ltb-true, lt-ltb}
 use Rattle.lists.specs.Select.{every}
 use Rattle.lists.proofs.Tests.{test, same-test}
-use Rattle.lists.proofs.Members.{every-mem, select-mem}
+use Rattle.lists.proofs.Members.{every-mem}
 use Rattle.rule.specs.Job.{Job, laxity, in-date}
-use Rattle.board.specs.declared.Board.{Board}
 use Rattle.board.specs.Limits.{longest-laxity, deepest}
-use Rattle.board.specs.Held.{slot-of, held}
 use Rattle.thinning.specs.Kept.{seen-job}
 
 pub record JobSeen (now d : ℕ) (r : Job) : Type 0 where

@@ -63,20 +63,3 @@ closed-sound b lent s = go (close-number b lent) refl
     go : (n : ℕ) → close-number b lent ≡ n → sound (closed-with n b (bakes b) .board) ≡ true
     go zero e = moved-on-sound b (ticket-of (bakes b)) s (close-going b lent s e)
     go (suc n) e = s
-
--- a refused call hands back its board
-pub admitted-refused : (b : Board) (t w g : ℕ) → (admitted b t w g .refusal ≡ 0 → ⊥) → admitted b t w g .board ≡ b
-unfolding admitted admitted-if
-admitted-refused b t w g = go (admit-number b t w g)
-  where
-    go : (n : ℕ) → (admitted-if n b t w g .refusal ≡ 0 → ⊥) → admitted-if n b t w g .board ≡ b
-    go zero h = absurd (h refl)
-    go (suc n) h = refl
-
-pub closed-refused : (b : Board) (lent : ℕ) → (closed b lent .refusal ≡ 0 → ⊥) → closed b lent .board ≡ b
-unfolding closed closed-with
-closed-refused b lent = go (close-number b lent)
-  where
-    go : (n : ℕ) → (closed-with n b (bakes b) .refusal ≡ 0 → ⊥) → closed-with n b (bakes b) .board ≡ b
-    go zero h = absurd (h refl)
-    go (suc n) h = refl

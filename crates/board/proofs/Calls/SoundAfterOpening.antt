@@ -48,9 +48,6 @@ pub opened-sound : (d : ℕ) → d ≤ deepest → sound (opened d .board) ≡ t
 unfolding last-slot
 opened-sound d h = ap sound (opened-board d h) ∙ all-sound (empty-board d 1 0) (empty-facts d 1 0 h (omega arith) (omega arith))
 
-pub opened-held : (d : ℕ) → d ≤ deepest → held (opened d .board) ≡ []
-opened-held d h = ap held (opened-board d h) ∙ empty-held d 1 0
-
 pub opened-count : (d : ℕ) → d ≤ deepest → opened d .board .count ≡ 0
 unfolding empty-board
 opened-count d h = ap (λ (b : Board). b .count) (opened-board d h)

@@ -1,13 +1,10 @@
 -- Items as changes: each enters as a job with a new ticket, and each list after the first comes behind a closing.
 use mathlib.Core.Path.{_≡_, refl, ap, ap₂, _∙_, subst}
-use mathlib.Core.Bool.{true, _&&_}
+use mathlib.Core.Bool.{true}
 use mathlib.Core.List.{List, [], _∷_, _++_, append-nil}
 use Prim.Native.Nat.{ℕ, suc, _+_, _-_}
 use native.Mathlib.Omega.{arith}
-use lib.Dec.{ltb}
 use lib.ListN.{length}
-use borrow.Author.Tests.{le-leb, lt-ltb}
-use Rattle.lists.proofs.Tests.{and-intro}
 use Rattle.heights.proofs.Items.Item.{Item, Each}
 use Rattle.heights.proofs.Adversary.Allowed.{Grades, Fit, AllFit}
 use Rattle.rule.specs.Job.{job}
@@ -15,7 +12,8 @@ use Rattle.rule.specs.Grade.{bits}
 use Rattle.rule.proofs.Bits.Number.{number, bits-number}
 use Rattle.rule.proofs.NoRegret.Items.{item, items}
 use Rattle.books.specs.Book.{Change, enter, end-slot}
-use Rattle.books.specs.Rival.{Setting, fit, any-laxity, lifted}
+use Rattle.books.specs.Rival.{Setting, fit, lifted}
+use Rattle.books.proofs.Walks.Left.{enter-lifted}
 use Rattle.books.proofs.Walks.Groups.{first, later}
 use Rattle.books.proofs.Runs.AnyRun.{groups}
 
@@ -35,20 +33,17 @@ module _ (S : Setting) where
   abbrev d : ℕ
   d = S .depth
 
-  enter-lifted : (h s : ℕ) (F : List Item) (es : List Change) → Each (Fit (ok S) d s) F → lifted S (h + length F) es ≡ true → lifted S h (enter-all h s F es) ≡ true
-  unfolding enter-all lifted any-laxity Each ok
-  enter-lifted h s [] es f e = subst (λ n. lifted S n es ≡ true) (let z : h + 0 ≡ h = omega arith in z) e
-  enter-lifted h s (p ∷ F) es f e =
-      and-intro (ltb h (suc h) && any-laxity (p .last + 1 - s) && fit S (number (p .grade))) (lifted S (suc h) (enter-all (suc h) s F es))
-      (and-intro (ltb h (suc h) && any-laxity (p .last + 1 - s)) (fit S (number (p .grade)))
-      (and-intro (ltb h (suc h)) (any-laxity (p .last + 1 - s)) (lt-ltb h (suc h) (omega arith)) (le-leb 1 (p .last + 1 - s) (omega (arith, f .0 .date))))
-      (f .0 .allowed .in-set))
-      (enter-lifted (suc h) s F es (f .1) (subst (λ n. lifted S n es ≡ true) (let z : h + suc (length F) ≡ suc h + length F = omega arith in z) e))
+  all-lifted : (h s : ℕ) (F : List Item) (es : List Change) → Each (Fit (ok S) d s) F → lifted S (h + length F) es ≡ true → lifted S h (enter-all h s F es) ≡ true
+  unfolding enter-all Each ok
+  all-lifted h s [] es f e = subst (λ n. lifted S n es ≡ true) (let z : h + 0 ≡ h = omega arith in z) e
+  all-lifted h s (p ∷ F) es f e =
+      enter-lifted S h (suc h) (p .last + 1 - s) (number (p .grade)) (enter-all (suc h) s F es) (omega arith) (omega (arith, f .0 .date)) (f .0 .allowed .in-set)
+      (all-lifted (suc h) s F es (f .1) (subst (λ n. lifted S n es ≡ true) (let z : h + suc (length F) ≡ suc h + length F = omega arith in z) e))
 
   pub future-lifted : (h s : ℕ) (F : List Item) (fs : List (List Item)) → Each (Fit (ok S) d s) F → AllFit (ok S) d (suc s) fs → lifted S h (future h s F fs) ≡ true
   unfolding future lifted AllFit
-  future-lifted h s F [] f a = enter-lifted h s F [] f refl
-  future-lifted h s F (G ∷ fs) f a = enter-lifted h s F (end-slot ∷ future (h + length F) (suc s) G fs) f (future-lifted (h + length F) (suc s) G fs (a .0) (a .1))
+  future-lifted h s F [] f a = all-lifted h s F [] f refl
+  future-lifted h s F (G ∷ fs) f a = all-lifted h s F (end-slot ∷ future (h + length F) (suc s) G fs) f (future-lifted (h + length F) (suc s) G fs (a .0) (a .1))
 
   -- an item enters as itself
   as-item : (h s : ℕ) (p : Item) → Fit (ok S) d s p → item d (job (suc h) s (p .last + 1 - s) (number (p .grade))) ≡ p

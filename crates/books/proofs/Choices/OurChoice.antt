@@ -23,7 +23,7 @@ use Rattle.books.proofs.Walks.Picks.{found, search}
 use Rattle.books.proofs.Runs.Kept.{Kept, idle, bake, after-left, finds}
 
 -- no job has ticket 0, so that where none is in date the ticket 0 keeps to every order
-pub kept-idle : (j d s : ℕ) {h : ℕ} {left : List Job} → Left h left → select (in-date s) left ≡ [] → Kept j d s left 0
+kept-idle : (j d s : ℕ) {h : ℕ} {left : List Job} → Left h left → select (in-date s) left ≡ [] → Kept j d s left 0
 kept-idle j d s {left = left} l e = idle (none-has (in-date s) left (λ x m. dated (test (in-date s x)) m)) (none-found (found s left 0) refl)
   where
     none-found : (o : Option Job) → found s left 0 ≡ o → found s left 0 ≡ none
@@ -36,8 +36,15 @@ kept-idle j d s {left = left} l e = idle (none-has (in-date s) left (λ x m. dat
     dated {x} (inl t) m = absurd (List·Memᴰ·not-nil (subst (List·Memᴰ x) e (mem-select (in-date s) m t)))
     dated (inr t) m = t
 
+-- a choice that finds a job of order j in date, if there is one
+pub kept-choice : (j d s : ℕ) {h : ℕ} {left : List Job} → Left h left → (o : Option Job) → (o ≡ none → select (in-date s) left ≡ [])
+    → ((p : Job) → o ≡ some p → List·Memᴰ p (no-regret-after s d j (select (in-date s) left))) → Kept j d s left (ticket-of o)
+unfolding ticket-of
+kept-choice j d s l none f g = kept-idle j d s l (f refl)
+kept-choice j d s {left = left} l (some p) f g = let k = after-left j d s left (g p refl) in bake p (g p refl) (finds l (k .0) (k .1))
+
 -- a set of a higher order lies within those of lower order
-pub after-down : (s d i j : ℕ) (A : List Job) {p : Job} → ((r : Job) → List·Memᴰ r A → s ≤ r .last) → i + j ≤ d
+after-down : (s d i j : ℕ) (A : List Job) {p : Job} → ((r : Job) → List·Memᴰ r A → s ≤ r .last) → i + j ≤ d
     → List·Memᴰ p (no-regret-after s d (i + j) A) → List·Memᴰ p (no-regret-after s d j A)
 after-down s d zero j A {p} a h m = subst (λ n. List·Memᴰ p (no-regret-after s d n A)) (let z : 0 + j ≡ j = omega arith in z) m
 after-down s d (suc i) j A {p} a h m =
@@ -51,19 +58,10 @@ baked-last s d A p e = baked-is s d A p e .member
 
 -- our choice is of every order
 pub ours-kept : (j d : ℕ) (b : Beginning) (past : List Change) (s h : ℕ) (left : List Job) → j ≤ d → Left h left → Kept j d s left (our-choice d b past s left)
-unfolding our-choice ticket-of
-ours-kept j d b past s h left k l = go (baked s d A) refl
-  where
-    A : List Job
-    A = select (in-date s) left
-
-    go : (o : Option Job) → baked s d A ≡ o → Kept j d s left (ticket-of (baked s d A))
-    go none e =
-        subst (λ (o : Option Job). Kept j d s left (ticket-of o)) (sym e)
-        (kept-idle j d s l (baked-none s d A e))
-    go (some p) e =
-        let m = baked-last s d A p e in
-        let i : d - j + j ≡ d = omega arith in
-        let n = after-down s d (d - j) j A (in-date-all s left) (omega arith) (subst (λ x. List·Memᴰ p (no-regret-after s d x A)) (sym i) m) in
-        let f = after-left j d s left n in
-        subst (λ (o : Option Job). Kept j d s left (ticket-of o)) (sym e) (bake p n (finds l (f .0) (f .1)))
+unfolding our-choice
+ours-kept j d b past s h left k l =
+    let A = select (in-date s) left in
+    let i : d - j + j ≡ d = omega arith in
+    kept-choice j d s l (baked s d A) (baked-none s d A)
+    (λ p e.
+    after-down s d (d - j) j A (in-date-all s left) (omega arith) (subst (λ x. List·Memᴰ p (no-regret-after s d x A)) (sym i) (baked-last s d A p e)))

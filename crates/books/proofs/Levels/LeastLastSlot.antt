@@ -1,7 +1,7 @@
 -- Always the least last slot: a rival, and so of level 0; at depth 1 not of level 1, by 01's board 4.
 use mathlib.Core.Path.{_≡_, refl, sym, subst}
 use mathlib.Core.Bool.{false≢true}
-use mathlib.Core.Option.{Option, none, some}
+use mathlib.Core.Option.{some}
 use mathlib.Core.List.{List, [], _∷_, List·Memᴰ}
 use Prim.Native.Nat.{ℕ, suc}
 use native.Mathlib.Omega.{arith}
@@ -14,7 +14,7 @@ use Rattle.rule.specs.Tight.{laxities, excess, smallest, tight-laxity, tight}
 use Rattle.rule.specs.Descent.{next-bit, descend, no-regret-after}
 use Rattle.rule.specs.Bake.{sooner, soonest-of, soonest, ticket-of}
 use Rattle.rule.proofs.Earliest.{soonest-is, soonest-none}
-use Rattle.rule.proofs.Tight.Counts.{AllInDate, in-date-all, part-at, fall-member}
+use Rattle.rule.proofs.Tight.Counts.{AllInDate, in-date-all, fall-member}
 use Rattle.rule.proofs.Tight.Slot.{tight-last, tight-last-is, mem-tight}
 use Rattle.books.specs.Book.{Beginning, Change, enter, end-slot, Book}
 use Rattle.books.specs.Rule.{valid, without}
@@ -22,10 +22,9 @@ use Rattle.books.specs.Rival.{Setting, fit, any-laxity, lifted, begun, T
 use Rattle.books.specs.NoRegretRule.{by-choice, replay, keeps-at, EachClosing, Keeps}
 use Rattle.books.specs.LeastLastSlot.{least-last-choice, least-last-rule, paper-setting}
 use Rattle.books.proofs.Walks.Left.{Left}
-use Rattle.books.proofs.Runs.Kept.{Kept, bake, after-left, finds}
-use Rattle.books.proofs.Choices.OurChoice.{kept-idle}
+use Rattle.books.proofs.Runs.Kept.{Kept, after-none}
+use Rattle.books.proofs.Choices.OurChoice.{kept-choice}
 use Rattle.books.proofs.Choices.KeptChoice.{choice-keeps}
-use Rattle.books.proofs.Levels.Loose.{after-none}
 use Rattle.books.proofs.Levels.Characterised.{characterised}
 
 -- the least last slot is tight
@@ -34,26 +33,18 @@ soonest-tight s A p a e =
     let q = soonest-is A p e in
     let t = tight-last-is s A a (q .member) in
     let l = tight-last s A in
-    let r = fall-member A l (suc l) (omega (arith, t .present, part-at A l, part-at A (suc l))) in
+    let r = fall-member A l (suc l) (t .present) in
     mem-tight s A a (q .member) (omega (arith, q .sooner (r .0) (r .1) .last, r .3))
 
 least-kept : (d : ℕ) (b : Beginning) (past : List Change) (s h : ℕ) (left : List Job) → Left h left → Kept 0 d s left (least-last-choice d b past s left)
-unfolding least-last-choice ticket-of
-least-kept d b past s h left l = go (soonest A) refl
-  where
-    A : List Job
-    A = select (in-date s) left
-
-    go : (o : Option Job) → soonest A ≡ o → Kept 0 d s left (ticket-of (soonest A))
-    go none e = subst (λ (o : Option Job). Kept 0 d s left (ticket-of o)) (sym e) (kept-idle 0 d s l (soonest-none A e))
-    go (some p) e =
-        let m = subst (List·Memᴰ p) (sym (after-none s d A)) (soonest-tight s A p (in-date-all s left) e) in
-        let f = after-left 0 d s left m in
-        subst (λ (o : Option Job). Kept 0 d s left (ticket-of o)) (sym e) (bake p m (finds l (f .0) (f .1)))
+unfolding least-last-choice
+least-kept d b past s h left l =
+    let A = select (in-date s) left in
+    kept-choice 0 d s l (soonest A) (soonest-none A) (λ p e. subst (List·Memᴰ p) (sym (after-none s d A)) (soonest-tight s A p (in-date-all s left) e))
 
 pub least-last-level0 : (S : Setting) → Level S 0 least-last-rule
 unfolding least-last-rule
-least-last-level0 S = characterised S .keeps-level 0 (omega arith) _ (choice-keeps S 0 least-last-choice (λ b past t h L l. least-kept (S .depth) b past t h L l))
+least-last-level0 S = characterised S .keeps-level 0 (omega arith) _ (choice-keeps S 0 least-last-choice (λ b past s h left l. least-kept (S .depth) b past s h left l))
 
 -- 01's board 4 as a book: 1/1, 2/1, 2/0, and a closing
 board-4 : Book

@@ -1,7 +1,7 @@
 -- A rival never idles with a job in date.
 use mathlib.Core.Path.{_≡_, ap}
 use mathlib.Core.Bool.{true, not}
-use mathlib.Core.List.{List, []}
+use mathlib.Core.List.{List}
 use Prim.Native.Nat.{ℕ}
 use native.Mathlib.Omega.{arith}
 use lib.Dec.{eqb}
@@ -13,7 +13,8 @@ use Rattle.books.specs.Rule.{Rule, valid}
 use Rattle.books.specs.Rival.{Setting, Rival}
 use Rattle.books.specs.NoRegretRule.{keeps-at, busy-at, Busy, Keeps}
 use Rattle.books.proofs.Walks.Tickets.{rising-above}
-use Rattle.books.proofs.Walks.Left.{Left, begun-left}
+use Rattle.books.proofs.Walks.Left.{Left}
+use Rattle.books.proofs.Walks.GoesOn.{goes-start}
 use Rattle.books.proofs.Walks.Closings.{each-weaker}
 use Rattle.books.proofs.Runs.Kept.{Kept, idle, bake, kept, after-left}
 use Rattle.books.proofs.Runs.AnyRun.{found-valid}
@@ -31,5 +32,4 @@ unfolding Busy
 never-idle S q R B T =
     let d = S .depth in
     let b = B .beginning in
-    each-weaker S q d b (keeps-at 0 d) busy-at (λ s h left x l e. busy d s h left x l (kept 0 d s h left x l e)) [] (b .slot) (b .jobs) (B .changes) (b .highest)
-    (begun-left S b (T .at-first)) (T .later) (unfold Keeps in rival-keeps S q R B T)
+    each-weaker (goes-start T) q d b (keeps-at 0 d) busy-at (λ s h left x l e. busy d s h left x l (kept 0 d s h left x l e)) (unfold Keeps in rival-keeps S q R B T)

@@ -15,11 +15,12 @@ use Rattle.books.specs.Rule.{Rule, made-by}
 use Rattle.books.specs.Rival.{Setting, Tried, Rival, count-of, NoLarger}
 use Rattle.books.specs.NoRegretRule.{keeps-at, Keeps}
 use Rattle.books.proofs.Walks.Groups.{first}
-use Rattle.books.proofs.Walks.Left.{begun-left}
+use Rattle.books.proofs.Walks.GoesOn.{goes-start}
 use Rattle.books.proofs.Walks.Closings.{each-weaker}
 use Rattle.books.proofs.Schedules.Counts.{tally, picks-on, baked-tally}
 use Rattle.books.proofs.Schedules.Realised.{following, realised}
 use Rattle.books.proofs.Runs.Kept.{kept, kept-at, kept-wider}
+use Rattle.books.proofs.Runs.JobRun.{job-run, any-job-run}
 use Rattle.books.proofs.Runs.AnyRun.{sum-ones, any-run}
 use Rattle.books.proofs.Runs.KeptRuns.{tight-run, tree-run}
 
@@ -29,12 +30,11 @@ unfolding Rival Keeps total
 keeps-rival S q a B T k h p P =
     let d = S .depth in
     let b = B .beginning in
-    let l = begun-left S b (T .at-first) in
     omega (
       arith,
       no-schedule-more
-          (tight-run S 0 q d b (omega arith) [] (b .slot) (b .jobs) (B .changes) (b .highest) l (T .later) (a B T))
-          (any-run S (following p) d b [] (b .slot) (b .jobs) (B .changes) (b .highest) l (T .later))
+          (tight-run d (job-run (keeps-at 0 d) q d b (goes-start T) (a B T)))
+          (any-run d (any-job-run (following p) d b (goes-start T)))
           k,
       sum-ones (picks-on q d B) k,
       sum-ones (picks-on (following p) d B) k,
@@ -49,13 +49,12 @@ unfolding NoLarger Keeps count-of
 keeps-better S j i q r a c B T u e k h =
     let d = S .depth in
     let b = B .beginning in
-    let l = begun-left S b (T .at-first) in
     let v = u ++ (false ∷ []) in
     omega (
       arith,
       better j d (tree d (items d (b .jobs ++ first (b .slot) (B .changes)))) (λ w. tally (graded d w) (picks-on q d B) k) (λ w. tally (graded d w) (picks-on r d B) k) i
-          (tree-run S (suc j) q d b i [] (b .slot) (b .jobs) (B .changes) (b .highest) l (T .later) (a B T) k)
-          (tree-run S j r d b (omega arith) [] (b .slot) (b .jobs) (B .changes) (b .highest) l (T .later) (c B T) k)
+          (tree-run i (job-run (keeps-at (suc j) d) q d b (goes-start T) (a B T)) k)
+          (tree-run (omega arith) (job-run (keeps-at j d) r d b (goes-start T) (c B T)) k)
           u e,
       baked-tally S B T q d (graded d v) k,
       baked-tally S B T r d (graded d v) k,
@@ -67,5 +66,5 @@ unfolding Keeps
 keeps-wider S j q i a B T =
     let d = S .depth in
     let b = B .beginning in
-    each-weaker S q d b (keeps-at (suc j) d) (keeps-at j d) (λ s h left x l e. kept-at j d s left x (kept-wider j d s left x i (kept (suc j) d s h left x l e))) []
-    (b .slot) (b .jobs) (B .changes) (b .highest) (begun-left S b (T .at-first)) (T .later) (a B T)
+    each-weaker (goes-start T) q d b (keeps-at (suc j) d) (keeps-at j d)
+    (λ s h left x l e. kept-at j d s left x (kept-wider j d s left x i (kept (suc j) d s h left x l e))) (a B T)

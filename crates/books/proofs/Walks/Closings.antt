@@ -1,26 +1,30 @@
--- A test that every closing passes, weakened to another that follows from it.
-use mathlib.Core.Path.{_≡_}
+-- A test that every closing passes: it is passed where the book goes on at each closing, and weakened to another that follows from it.
+use mathlib.Core.Path.{_≡_, subst}
 use mathlib.Core.Bool.{Bool, true}
-use mathlib.Core.List.{List, [], _∷_, _++_}
-use Prim.Native.Nat.{ℕ, suc}
-use Rattle.rule.specs.Job.{Job, job}
-use Rattle.books.specs.Book.{Beginning, Change, enter, end-slot}
-use Rattle.books.specs.Rule.{Rule, valid, without}
-use Rattle.books.specs.Rival.{Setting, lifted}
+use mathlib.Core.List.{List, _∷_, _++_}
+use Prim.Native.Nat.{ℕ}
+use Rattle.rule.specs.Job.{Job}
+use Rattle.books.specs.Book.{Beginning, Change, end-slot, raised}
+use Rattle.books.specs.Rule.{Rule, valid}
+use Rattle.books.specs.Rival.{Setting}
 use Rattle.books.specs.NoRegretRule.{EachClosing}
-use Rattle.books.proofs.Walks.Left.{Left, enters, ends, left-enter, left-without}
+use Rattle.books.proofs.Walks.Left.{Left}
+use Rattle.books.proofs.Walks.Place.{Place, EachFrom, named, after, Passes, each-after, each-from}
+use Rattle.books.proofs.Walks.GoesOn.{GoesOn, goes-after}
 
-module _ (S : Setting) (q : Rule) (d : ℕ) (b : Beginning) (strong weak : ℕ → List Job → ℕ → Bool)
-    (weaken : (s h : ℕ) (left : List Job) (x : ℕ) → Left h left → strong s left (valid s left x) ≡ true → weak s left (valid s left x) ≡ true) where
-  pub each-weaker : (past : List Change) (s : ℕ) (left : List Job) (es : List Change) (h : ℕ) → Left h left → lifted S h es ≡ true
-      → EachClosing strong q d b past s left es → EachClosing weak q d b past s left es
+module _ {S : Setting} {h : ℕ} {P : Place} {es : List Change} (k : GoesOn S h P es) (q : Rule) (d : ℕ) (b : Beginning) where
+  pub each-where : (test : ℕ → List Job → ℕ → Bool)
+      → ((pre post : List Change) → es ≡ pre ++ (end-slot ∷ post) → GoesOn S (raised h pre) (after q d b P pre) (end-slot ∷ post) → Passes q d b test (after q d b P pre))
+      → EachFrom test q d b P es
+  each-where test f = each-from q d b test P es (λ pre post e. f pre post e (goes-after q d b pre (end-slot ∷ post) (subst (GoesOn S h P) e k)))
+
+  pub each-weaker : (strong weak : ℕ → List Job → ℕ → Bool)
+      → ((s h : ℕ) (left : List Job) (x : ℕ) → Left h left → strong s left (valid s left x) ≡ true → weak s left (valid s left x) ≡ true)
+      → EachFrom strong q d b P es → EachFrom weak q d b P es
   unfolding EachClosing
-  each-weaker past s left [] h l e a = tt
-  each-weaker past s left (enter t w g ∷ es) h l e a =
-      let n = enters S h t w g es e in
-      each-weaker (past ++ (enter t w g ∷ [])) s (left ++ (job t s w g ∷ [])) es t (left-enter t s w g l (n .above)) (n .later) a
-  each-weaker past s left (end-slot ∷ es) h l e a =
-      let x = q d b past in (
-        weaken s h left x l (a .0),
-        each-weaker (past ++ (end-slot ∷ [])) (suc s) (without (valid s left x) left) es h (left-without (valid s left x) l) (ends S h es e) (a .1),
-      )
+  each-weaker strong weak f a =
+      each-where weak
+      (λ pre post e g.
+      let Q = after q d b P pre in
+      f (Q .slot) (raised h pre) (Q .left) (named q d b Q) (g .left)
+      (each-after q d b strong P pre (end-slot ∷ post) (subst (EachFrom strong q d b P) e a) .0))

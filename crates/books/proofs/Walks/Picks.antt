@@ -2,10 +2,9 @@
 use mathlib.Core.Path.{_≡_, refl, sym, ap, ap₂, _∙_, subst}
 use mathlib.Core.Bool.{Bool, true, false, cond, _&&_, _||_}
 use mathlib.Core.Logic.{_⊎_, inl, inr}
-use mathlib.Core.Option.{Option, none, some}
-use mathlib.Core.List.{List, [], _∷_, _++_, map, append-assoc, List·Memᴰ, List·Memᴰ·head, List·Memᴰ·tail, Memᴰ·append-left, Memᴰ·append-right, List·Memᴰ·append-cases}
+use mathlib.Core.Option.{Option, none, some, Option·none-ne-some, Option·some-ne-none}
+use mathlib.Core.List.{List, [], _∷_, _++_, map, append-assoc, List·Memᴰ, List·Memᴰ·head, List·Memᴰ·tail, Memᴰ·append-left}
 use Prim.Native.Nat.{ℕ, suc, _≤_}
-use native.Mathlib.Omega.{arith}
 use lib.Dec.{leb, eqb}
 use borrow.Author.Tests.{leb-true, eqb-true}
 use Rattle.lists.specs.Select.{has}
@@ -13,8 +12,9 @@ use Rattle.lists.proofs.Tests.{test, and-left, and-right, cond-true, cond-false
 use Rattle.rule.specs.Job.{Job, job, in-date}
 use Rattle.rule.specs.Bake.{ticket-of}
 use Rattle.books.specs.Book.{Beginning, Change, enter, end-slot, entered}
-use Rattle.books.specs.Rule.{Rule, valid, without, choices}
-use Rattle.books.proofs.Walks.Tickets.{without-mem}
+use Rattle.books.specs.Rule.{Rule, valid, choices}
+use Rattle.books.proofs.Walks.Place.{Place, entering, closing, named}
+use Rattle.books.proofs.Walks.Tickets.{without-mem-append}
 
 -- the job that a ticket names, if it is left and in date
 unfoldable pub found : ℕ → List Job → ℕ → Option Job
@@ -32,16 +32,9 @@ pub record Search (s : ℕ) (L : List Job) (t : ℕ) (o : Option Job) : Type 0 w
   pub named : valid s L t ≡ ticket-of o
   pub has-it : o ≡ none → has (λ r. eqb (r .ticket) t && in-date s r) L ≡ false
 
-named-step : (b c : Bool) (t u v : ℕ) → cond c t 0 ≡ u → (b ≡ true → v ≡ t) → (b ≡ false → v ≡ u) → cond (b || c) t 0 ≡ v
-named-step true c t u v e f g = sym (f refl)
-named-step false c t u v e f g = e ∙ sym (g refl)
-
 pub search : (s : ℕ) (L : List Job) (t : ℕ) → Search s L t (found s L t)
 unfolding found valid has ticket-of in-date
-search s [] t = record { is = λ r e. absurd (Option·none-some e); named = refl; has-it = λ e. refl }
-  where
-    Option·none-some : {r : Job} → _≡_ {A = Option Job} none (some r) → ⊥
-    Option·none-some e = let z : _≡_ {A = ℕ} 0 1 = cc in omega arith
+search s [] t = record { is = λ r e. absurd (Option·none-ne-some r e); named = refl; has-it = λ e. refl }
 search s (x ∷ L) t = go (test (eqb (x .ticket) t && leb s (x .last))) (search s L t)
   where
     c : Bool
@@ -64,7 +57,7 @@ search s (x ∷ L) t = go (test (eqb (x .ticket) t && leb s (x .last))) (search 
               };
           named =
               ap (λ b. cond (b || rest) t 0) h ∙ sym (eqb-true (x .ticket) t (and-left (eqb (x .ticket) t) (leb s (x .last)) h));
-          has-it = λ e. let z : _≡_ {A = ℕ} 0 1 = cc in absurd (omega arith);
+          has-it = λ e. absurd (Option·some-ne-none x e);
         })
     go (inr h) k =
         subst (λ (o : Option Job). Search s (x ∷ L) t o) (sym (cond-false c (some x) (found s L t) h))
@@ -74,38 +67,26 @@ search s (x ∷ L) t = go (test (eqb (x .ticket) t && leb s (x .last))) (search 
           has-it = λ e. ap (λ b. b || rest) h ∙ k .has-it e;
         })
 
--- the jobs that a rule bakes along the changes
-unfoldable pub picks : Rule → ℕ → Beginning → List Change → ℕ → List Job → List Change → List (Option Job)
-picks q d b past s left [] = []
-picks q d b past s left (enter t w g ∷ es) = picks q d b (past ++ (enter t w g ∷ [])) s (left ++ (job t s w g ∷ [])) es
-picks q d b past s left (end-slot ∷ es) =
-    found s left (q d b past) ∷ picks q d b (past ++ (end-slot ∷ [])) (suc s) (without (valid s left (q d b past)) left) es
+module _ (q : Rule) (d : ℕ) (b : Beginning) where
+  -- the jobs that a rule bakes along the changes
+  unfoldable pub picks : Place → List Change → List (Option Job)
+  picks P [] = []
+  picks P (enter t w g ∷ es) = picks (entering P t w g) es
+  picks P (end-slot ∷ es) = found (P .slot) (P .left) (named q d b P) ∷ picks (closing P (named q d b P)) es
 
-pub picks-choices : (q : Rule) (d : ℕ) (b : Beginning) (past : List Change) (s : ℕ) (left : List Job) (es : List Change)
-    → choices q d b past s left es ≡ map ticket-of (picks q d b past s left es)
-unfolding choices picks
-picks-choices q d b past s left [] = refl
-picks-choices q d b past s left (enter t w g ∷ es) = picks-choices q d b (past ++ (enter t w g ∷ [])) s (left ++ (job t s w g ∷ [])) es
-picks-choices q d b past s left (end-slot ∷ es) =
-    ap₂ _∷_ (search s left (q d b past) .named)
-    (picks-choices q d b (past ++ (end-slot ∷ [])) (suc s) (without (valid s left (q d b past)) left) es)
+  pub picks-choices : (P : Place) (es : List Change) → choices q d b (P .past) (P .slot) (P .left) es ≡ map ticket-of (picks P es)
+  unfolding choices picks
+  picks-choices P [] = refl
+  picks-choices P (enter t w g ∷ es) = picks-choices (entering P t w g) es
+  picks-choices P (end-slot ∷ es) = ap₂ _∷_ (search (P .slot) (P .left) (named q d b P) .named) (picks-choices (closing P (named q d b P)) es)
 
--- each is left, or still to come
-pub picks-from : (q : Rule) (d : ℕ) (b : Beginning) (past : List Change) (s : ℕ) (left : List Job) (es : List Change) (r : Job)
-    → List·Memᴰ (some r) (picks q d b past s left es) → List·Memᴰ r (left ++ entered s es)
-unfolding picks entered
-picks-from q d b past s left [] r m = absurd (elim m [ ])
-picks-from q d b past s left (enter t w g ∷ es) r m =
-    subst (List·Memᴰ r) (append-assoc left (job t s w g ∷ []) (entered s es))
-    (picks-from q d b (past ++ (enter t w g ∷ [])) s (left ++ (job t s w g ∷ [])) es r m)
-picks-from q d b past s left (end-slot ∷ es) r (List·Memᴰ·head e) =
-    Memᴰ·append-left (entered (suc s) es) (search s left (q d b past) .is r (sym e) .mem)
-picks-from q d b past s left (end-slot ∷ es) r (List·Memᴰ·tail m) =
-    go (List·Memᴰ·append-cases (without t left) (picks-from q d b (past ++ (end-slot ∷ [])) (suc s) (without t left) es r m))
-  where
-    t : ℕ
-    t = valid s left (q d b past)
-
-    go : List·Memᴰ r (without t left) ⊎ List·Memᴰ r (entered (suc s) es) → List·Memᴰ r (left ++ entered (suc s) es)
-    go (inl k) = Memᴰ·append-left (entered (suc s) es) (without-mem t left k .0)
-    go (inr k) = Memᴰ·append-right left k
+  -- each is left, or still to come
+  pub picks-from : (P : Place) (es : List Change) (r : Job) → List·Memᴰ (some r) (picks P es) → List·Memᴰ r (P .left ++ entered (P .slot) es)
+  unfolding picks entered
+  picks-from P [] r m = absurd (elim m [ ])
+  picks-from P (enter t w g ∷ es) r m =
+      subst (List·Memᴰ r) (append-assoc (P .left) (job t (P .slot) w g ∷ []) (entered (P .slot) es)) (picks-from (entering P t w g) es r m)
+  picks-from P (end-slot ∷ es) r (List·Memᴰ·head e) =
+      Memᴰ·append-left (entered (suc (P .slot)) es) (search (P .slot) (P .left) (named q d b P) .is r (sym e) .mem)
+  picks-from P (end-slot ∷ es) r (List·Memᴰ·tail m) =
+      without-mem-append (valid (P .slot) (P .left) (named q d b P)) (P .left) (entered (suc (P .slot)) es) (picks-from (closing P (named q d b P)) es r m)

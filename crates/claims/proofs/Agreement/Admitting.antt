@@ -1,40 +1,31 @@
 -- Board and book still agree after an admitting that the rows let through.
 use mathlib.Core.Path.{_≡_, sym, ap, ap₂, _∙_, subst}
-use mathlib.Core.Logic.{_⊎_, inl, inr}
-use mathlib.Core.List.{List, [], _∷_, _++_, List·Memᴰ, List·Memᴰ·append-cases, List·Memᴰ·eq-of-singleton}
+use mathlib.Core.List.{List, [], _∷_, _++_, List·Memᴰ}
 use Prim.Native.Nat.{ℕ, _+_, _-_, _≤_}
 use native.Mathlib.Omega.{arith}
 use lib.Dec.{eqb}
 use borrow.Author.Tests.{le-leb}
 use Rattle.lists.specs.Select.{select}
-use Rattle.lists.proofs.Members.{select-append, select-yes}
+use Rattle.lists.proofs.Members.{each-more, select-append, select-yes}
 use Rattle.lists.proofs.Counting.{count-append}
 use Rattle.rule.specs.Job.{Job, job, in-date}
-use Rattle.books.specs.Book.{enter, Book, highest, jobs, extend}
+use Rattle.books.specs.Book.{enter, Book, jobs, extend}
 use Rattle.board.specs.declared.Board.{Board}
-use Rattle.board.specs.Held.{slot-of, held, in-slot}
+use Rattle.board.specs.Held.{held}
 use Rattle.board.specs.Admit.{admit-number, with-job}
 use Rattle.board.proofs.Soundness.Facts.{admitted-in}
-use Rattle.board.proofs.Soundness.Apart.{facts}
-use Rattle.board.proofs.Soundness.FreePlace.{room}
-use Rattle.board.proofs.Calls.Rows.{Admits, admits}
-use Rattle.board.proofs.Calls.HeldAfter.{held-with-job}
-use Rattle.board.proofs.Calls.SoundAfter.{admit-number-sound, with-job-sound}
+use Rattle.board.proofs.Calls.SoundAfter.{with-job-sound}
 use Rattle.books.proofs.Walks.Extended.{present-entered, highest-entered, jobs-entered}
+use Rattle.claims.proofs.Admitted.{taken-rows, held-taken}
 use Rattle.claims.proofs.Agreement.Agree.{Agree}
 
-module _ (d s : ℕ) (b : Board) (B : Book) (left : List Job) (a : Agree d s b B left) (t w g : ℕ) (e : admit-number b t w g ≡ 0) where
-  rows : Admits (slot-of b) (b .highest) (in-slot b) (b .depth) t w g
-  rows = admits (slot-of b) (b .highest) (in-slot b) (b .depth) t w g (sym (admit-number-sound b t w g (a .is-sound)) ∙ e)
-
+module _ {d s : ℕ} {b : Board} {B : Book} {left : List Job} (a : Agree d s b B left) (t w g : ℕ) (e : admit-number b t w g ≡ 0) where
   new-job : Job
   new-job = job t s w g
 
   new-held : held (with-job b t w g) ≡ held b ++ (new-job ∷ [])
   unfolding new-job
-  new-held =
-      let f = facts b (a .is-sound) in
-      held-with-job b t w g (omega (arith, f .full, room b f (rows .room))) ∙ ap (λ k. held b ++ (job t k w g ∷ [])) (a .slot)
+  new-held = held-taken b t w g (a .is-sound) e ∙ ap (λ k. held b ++ (job t k w g ∷ [])) (a .slot)
 
   new-jobs : jobs (extend B (enter t w g)) ≡ jobs B ++ (new-job ∷ [])
   unfolding new-job
@@ -54,14 +45,7 @@ module _ (d s : ℕ) (b : Board) (B : Book) (left : List Job) (a : Agree d s b B
 
   dated : select (in-date s) (new-job ∷ []) ≡ new-job ∷ []
   unfolding in-date new-job job select
-  dated = select-yes (in-date s) new-job [] (le-leb s (s + w - 1) (omega (arith, rows .some-laxity)))
-
-  of-either : (P : Job → Type 0) (A : List Job) → ((r : Job) → List·Memᴰ r A → P r) → P new-job → (r : Job) → List·Memᴰ r (A ++ (new-job ∷ [])) → P r
-  of-either P A h n r m = go (List·Memᴰ·append-cases A m)
-    where
-      go : List·Memᴰ r A ⊎ List·Memᴰ r (new-job ∷ []) → P r
-      go (inl k) = h r k
-      go (inr k) = subst P (sym (List·Memᴰ·eq-of-singleton k)) n
+  dated = select-yes (in-date s) new-job [] (le-leb s (s + w - 1) (omega (arith, taken-rows b t w g (a .is-sound) e .some-laxity)))
 
   pub agree-admitted : Agree d s (with-job b t w g) (extend B (enter t w g)) (left ++ (job t s w g ∷ []))
   unfolding with-job new-job job
@@ -73,6 +57,6 @@ module _ (d s : ℕ) (b : Board) (B : Book) (left : List Job) (a : Agree d s b B
         book-slot = present-entered B t w g ∙ a .book-slot;
         same-highest = highest-entered B t w g;
         same-intake = counts;
-        begun = λ r m. of-either (λ q. q .admitted ≤ s) (jobs B) (a .begun) (omega arith) r (subst (List·Memᴰ r) new-jobs m);
+        begun = λ r m. each-more (λ (q : Job). q .admitted ≤ s) (jobs B) (a .begun) (omega arith) r (subst (List·Memᴰ r) new-jobs m);
         on-board = new-held ∙ ap₂ _++_ (a .on-board) (sym dated) ∙ sym (select-append (in-date s) left (new-job ∷ []));
       }

@@ -41,7 +41,7 @@ pub record CloseRefused (d : ℕ) (b : Board) (B : Book) (lent : ℕ) : Type 0 w
   pub stopped : lets-through d B (close lent) ≡ false
   pub board : closed b lent .board ≡ b
 
-module _ (d s : ℕ) (b : Board) (B : Book) (left : List Job) (a : Agree d s b B left) where
+module _ {d s : ℕ} {b : Board} {B : Book} {left : List Job} (a : Agree d s b B left) where
   same-number : entered-now B ≡ in-slot b
   unfolding entered-now in-slot
   same-number =

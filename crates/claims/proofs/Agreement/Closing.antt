@@ -59,7 +59,7 @@ staying : (s t : ℕ) (x : Job) → (in-date s x && stays s t x) ≡ (not (eqb (
 unfolding in-date stays
 staying s t x = turned (leb s (x .last)) (ltb s (x .last)) (eqb (x .ticket) t) (λ e. le-leb s (x .last) (omega (arith, ltb-true s (x .last) e)))
 
-module _ (d s : ℕ) (b : Board) (B : Book) (left : List Job) (a : Agree d s b B left) where
+module _ {d s : ℕ} {b : Board} {B : Book} {left : List Job} (a : Agree d s b B left) where
   -- our rule's choice is the ticket of the board's answer
   pub choice : (c : Beginning) (past : List Change) → our-choice d c past s left ≡ ticket-of (bakes b)
   unfolding our-choice bakes

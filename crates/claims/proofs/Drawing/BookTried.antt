@@ -1,11 +1,11 @@
 -- The day book is one of the books with the limits lifted.
 use mathlib.Core.Path.{_≡_, refl, sym, ap, subst}
-use mathlib.Core.Bool.{Bool, true, false, _&&_}
+use mathlib.Core.Bool.{Bool, true, false}
 use mathlib.Core.Logic.{_⊎_, inl, inr}
 use mathlib.Core.List.{List, [], _∷_}
 use Prim.Native.Nat.{ℕ, _^_}
 use lib.Dec.{ltb}
-use borrow.Author.Tests.{lt-ltb, le-leb, eqb-true}
+use borrow.Author.Tests.{lt-ltb, eqb-true}
 use Rattle.lists.specs.Select.{every}
 use Rattle.lists.specs.Rise.{rise}
 use Rattle.lists.proofs.Tests.{test, and-intro}
@@ -16,7 +16,8 @@ use Rattle.board.proofs.Calls.Rows.{admits}
 use Rattle.claims.specs.Calls.{Call, admit, close}
 use Rattle.claims.specs.DayBook.{new-book, entered-now, lets-through, change-of, book-after, drawn, day-book}
 use Rattle.claims.specs.Demand3.{setting, book-of}
-use Rattle.books.proofs.Walks.Positions.{lifted-join}
+use Rattle.books.proofs.Walks.Left.{enter-lifted}
+use Rattle.books.proofs.Walks.GoesOn.{lifted-join}
 use Rattle.claims.proofs.Drawing.Added.{book-through, book-stopped}
 use Rattle.claims.proofs.Drawing.PlanOfOurRule.{first-book, book-added}
 
@@ -28,11 +29,8 @@ module _ (b : Board) (begins : Beginning → Bool) where
   unfolding lets-through lifted any-laxity fit setting
   entered-lifted B t w g h =
       let r = admits (present B) (highest B) (entered-now B) (b .depth) t w g (eqb-true _ 0 h) in
-      and-intro (ltb (highest B) t && any-laxity w && (ltb g (2 ^ b .depth) && true)) true
-      (and-intro (ltb (highest B) t && any-laxity w) (ltb g (2 ^ b .depth) && true)
-      (and-intro (ltb (highest B) t) (any-laxity w) (lt-ltb (highest B) t (r .above)) (le-leb 1 w (r .some-laxity)))
-      (and-intro (ltb g (2 ^ b .depth)) true (lt-ltb g (2 ^ b .depth) (r .graded)) refl))
-      refl
+      enter-lifted (setting b begins) (highest B) t w g [] (r .above) (r .some-laxity)
+      (and-intro (ltb g (2 ^ b .depth)) true (lt-ltb g (2 ^ b .depth) (r .graded)) refl) refl
 
   change-lifted : (B : Book) (c : Call) → lets-through (b .depth) B c ≡ true → lifted (setting b begins) (highest B) (change-of c ∷ []) ≡ true
   unfolding change-of lifted

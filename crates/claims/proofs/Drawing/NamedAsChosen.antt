@@ -45,10 +45,10 @@ module _ (d : ℕ) (B : Book) (b : Board) (cs : List Call) where
       ∙ ap (λ c. named d B c cs) (h .board)
 
 -- the answers to some calls are what our rule's choice names
-abbrev Same : (d s : ℕ) → Board → Book → List Job → List Call → Type 0
+abbrev pub Same : (d s : ℕ) → Board → Book → List Job → List Call → Type 0
 Same d s b B left cs = named d B b cs ≡ chosen our-choice d (B .beginning) (B .changes) s left (added d B cs)
 
-module _ (d s : ℕ) (b : Board) (B : Book) (left : List Job) (a : Agree d s b B left) (cs : List Call) (refused : Same d s b B left cs) where
+module _ {d s : ℕ} {b : Board} {B : Book} {left : List Job} (a : Agree d s b B left) (cs : List Call) (refused : Same d s b B left cs) where
   after-admit : (t w g : ℕ) → (AdmitTaken d b B t w g → Same d s (with-job b t w g) (extend B (enter t w g)) (left ++ (job t s w g ∷ [])) cs)
       → AdmitTaken d b B t w g ⊎ AdmitRefused d b B t w g → Same d s b B left (admit t w g ∷ cs)
   unfolding chosen extend change-of
@@ -68,22 +68,17 @@ module _ (d s : ℕ) (b : Board) (B : Book) (left : List Job) (a : Agree d s b B
       named-close-taken d B b cs lent h
       ∙ ap (ticket-of (bakes b) ∷_) (taken h)
       ∙ ap (λ n. n ∷ chosen our-choice d (B .beginning) (B .changes ++ (end-slot ∷ [])) (suc s) (without n left) (added d (extend B end-slot) cs))
-      (sym (ap (valid s left) (choice d s b B left a (B .beginning) (B .changes)) ∙ named-valid d s b B left a))
+      (sym (ap (valid s left) (choice a (B .beginning) (B .changes)) ∙ named-valid a))
       ∙ ap (chosen our-choice d (B .beginning) (B .changes) s left) (sym (added-through d B (close lent) cs (h .through)))
   after-close lent taken (inr h) =
       named-close-refused d B b cs lent h
       ∙ refused
       ∙ ap (chosen our-choice d (B .beginning) (B .changes) s left) (sym (added-stopped d B (close lent) cs (h .stopped)))
 
-pub named-as-chosen : (d s : ℕ) (b : Board) (B : Book) (left : List Job) → Agree d s b B left → (cs : List Call)
-    → named d B b cs ≡ chosen our-choice d (B .beginning) (B .changes) s left (added d B cs)
+pub named-as-chosen : {d s : ℕ} {b : Board} {B : Book} {left : List Job} → Agree d s b B left → (cs : List Call) → Same d s b B left cs
 unfolding chosen named added
-named-as-chosen d s b B left a [] = refl
-named-as-chosen d s b B left a (admit t w g ∷ cs) =
-    after-admit d s b B left a cs (named-as-chosen d s b B left a cs) t w g
-    (λ h. named-as-chosen d s (with-job b t w g) (extend B (enter t w g)) (left ++ (job t s w g ∷ [])) (agree-admitted d s b B left a t w g (h .number)) cs)
-    (admit-answers d s b B left a t w g)
-named-as-chosen d s b B left a (close lent ∷ cs) =
-    after-close d s b B left a cs (named-as-chosen d s b B left a cs) lent
-    (λ h. named-as-chosen d (suc s) (moved-on-with b (ticket-of (bakes b))) (extend B end-slot) (without (ticket-of (bakes b)) left) (agree-closed d s b B left a lent (h .number)) cs)
-    (close-answers d s b B left a lent)
+named-as-chosen a [] = refl
+named-as-chosen a (admit t w g ∷ cs) =
+    after-admit a cs (named-as-chosen a cs) t w g (λ h. named-as-chosen (agree-admitted a t w g (h .number)) cs) (admit-answers a t w g)
+named-as-chosen a (close lent ∷ cs) =
+    after-close a cs (named-as-chosen a cs) lent (λ h. named-as-chosen (agree-closed a lent (h .number)) cs) (close-answers a lent)

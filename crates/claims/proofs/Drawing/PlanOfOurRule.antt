@@ -52,7 +52,7 @@ module _ (b : Board) (s : sound b ≡ true) (empty : b .count ≡ 0) where
       ≡ choices our-rule (b .depth) (book-of b cs .beginning) [] (book-of b cs .beginning .slot) (book-of b cs .beginning .jobs) (book-of b cs .changes)
   unfolding our-rule new-book
   named-by-our-rule cs =
-      named-as-chosen (b .depth) (slot-of b) b (first-book b) [] agree-first cs
+      named-as-chosen agree-first cs
       ∙ sym (choices-of-choice our-choice (b .depth) (first-book b .beginning) (added (b .depth) (first-book b) cs))
       ∙ sym (ap (λ (B : Book). choices our-rule (b .depth) (B .beginning) [] (B .beginning .slot) (B .beginning .jobs) (B .changes)) (book-added b cs))
 

@@ -1,7 +1,7 @@
 -- The events of an admitting.
-use mathlib.Core.Path.{_≡_, refl, sym, ap, _∙_}
+use mathlib.Core.Path.{_≡_, refl, ap}
 use mathlib.Core.Bool.{true}
-use mathlib.Core.List.{[], _∷_, _++_, List·Memᴰ·eq-of-singleton}
+use mathlib.Core.List.{[], _∷_, List·Memᴰ·eq-of-singleton}
 use Prim.Native.Nat.{ℕ, zero, suc, _+_, _≤_}
 use native.Mathlib.Omega.{arith}
 use lib.Dec.{eqb}
@@ -20,28 +20,25 @@ use Rattle.board.proofs.Soundness.Apart.{facts}
 use Rattle.board.proofs.Soundness.FreePlace.{room}
 use Rattle.board.proofs.Tallies.CountAt.{grades-counted}
 use Rattle.board.proofs.Tallies.Kinds.{same-cell, admitted-cell}
-use Rattle.board.proofs.Calls.Rows.{Admits, admits}
-use Rattle.board.proofs.Calls.HeldAfter.{held-with-job}
-use Rattle.board.proofs.Calls.SoundAfter.{admit-number-sound, with-job-sound}
+use Rattle.board.proofs.Calls.Rows.{Admits}
+use Rattle.board.proofs.Calls.SoundAfter.{with-job-sound}
 use Rattle.claims.specs.Balance.{on-board}
+use Rattle.claims.proofs.Admitted.{taken-rows, held-taken}
 use Rattle.claims.proofs.Tallying.RunFacts.{still, Leads, leads-nowhere}
 
 module _ (b : Board) (t w g : ℕ) (s : sound b ≡ true) (e : admit-number b t w g ≡ 0) where
   rows : Admits (slot-of b) (b .highest) (in-slot b) (b .depth) t w g
-  rows = admits (slot-of b) (b .highest) (in-slot b) (b .depth) t w g (sym (admit-number-sound b t w g s) ∙ e)
+  rows = taken-rows b t w g s e
 
   known : SoundFacts b
   known = facts b s
-
-  jobs : held (with-job b t w g) ≡ held b ++ (job t (slot-of b) w g ∷ [])
-  jobs = held-with-job b t w g (omega (arith, known .full, room b known (rows .room)))
 
   one-more : (n : ℕ) → on-board n (with-job b t w g) ≡ on-board n b + one-if (eqb g n)
   unfolding on-board how-many job
   one-more n =
       omega (
         arith,
-        ap (how-many (λ (r : Job). eqb (r .grade) n)) jobs,
+        ap (how-many (λ (r : Job). eqb (r .grade) n)) (held-taken b t w g s e),
         count-append (λ (r : Job). eqb (r .grade) n) (held b) (job t (slot-of b) w g ∷ []),
       )
 
@@ -50,7 +47,7 @@ module _ (b : Board) (t w g : ℕ) (s : sound b ≡ true) (e : admit-number b t 
   one-more-now =
       omega (
         arith,
-        ap (admitted-in (slot-of b)) jobs,
+        ap (admitted-in (slot-of b)) (held-taken b t w g s e),
         one-if-yes (eqb (slot-of b) (slot-of b)) (eq-eqb (slot-of b) (slot-of b) refl),
         count-append (λ (r : Job). eqb (r .admitted) (slot-of b)) (held b) (job t (slot-of b) w g ∷ []),
       )

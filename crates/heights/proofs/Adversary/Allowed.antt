@@ -8,10 +8,9 @@ use native.Mathlib.Omega.{arith}
 use lib.ListN.{length}
 use Rattle.heights.proofs.Trees.Tree.{Tree, total, OutTree}
 use Rattle.heights.proofs.Items.Item.{each-append, Item, count-nil, Each}
-use Rattle.heights.proofs.Items.Side.{next-bit, more-bits, after, side, lift}
+use Rattle.heights.proofs.Items.Side.{next-bit, more-bits, after, side, lift, each-side, split-bits}
 use Rattle.heights.proofs.Items.Tree.{tree}
 use Rattle.heights.proofs.Items.Both.{both}
-use Rattle.heights.proofs.Items.Start.{each-side, split-bits}
 
 abbrev pub Grades : Type 0
 Grades = List Bool → Bool
@@ -34,6 +33,13 @@ pub record Fit (ok : Grades) (d n : ℕ) (p : Item) : Type 0 where
 unfoldable pub AllFit : Grades → ℕ → ℕ → List (List Item) → Type 0
 AllFit ok d n [] = Unit {0}
 AllFit ok d n (F ∷ fs) = Each (Fit ok d n) F × AllFit ok d (suc n) fs
+
+-- what arrives when slot n has ended, and after each slot from then on
+pub record Arrivals (ok : Grades) (d n : ℕ) : Type 0 where
+  pub first : List Item
+  pub first-fit : Each (Fit ok d (suc n)) first
+  pub later : List (List Item)
+  pub later-fit : AllFit ok d (suc (suc n)) later
 
 -- S holds only allowed grades from slot n on
 unfoldable pub Only : Grades → (d n : ℕ) → Tree d → Type 0

@@ -10,7 +10,7 @@ use borrow.Author.Tests.{leb-true, leb-false}
 use Rattle.heights.proofs.Items.Item.{Item, count, count-nil, count-cons, Each}
 use Rattle.heights.proofs.Items.Side.{lift}
 use Rattle.heights.proofs.Items.Lift.{lift-count}
-use Rattle.heights.proofs.Adversary.Allowed.{Grades, beyond, Fit, AllFit, each-lift}
+use Rattle.heights.proofs.Adversary.Allowed.{Grades, beyond, Fit, AllFit, each-lift, Arrivals}
 
 unfoldable pub sole : Bool → Item → List Item
 sole true p = p ∷ []
@@ -109,3 +109,12 @@ pub lift-fit : (ok : Grades) (d n : ℕ) (b : Bool) (fs : List (List Item)) → 
 unfolding lift-all AllFit
 lift-fit ok d n b [] a = tt
 lift-fit ok d n b (F ∷ fs) a = (each-lift ok d n b F (a .0), lift-fit ok d (suc n) b fs (a .1))
+
+abbrev pub lift-arrivals : {ok : Grades} {d n : ℕ} (b : Bool) → Arrivals (beyond b ok) d n → Arrivals ok (suc d) n
+lift-arrivals {ok} {d} {n} b a =
+    record {
+      first = lift b (a .first);
+      first-fit = each-lift ok d (suc n) b (a .first) (a .first-fit);
+      later = lift-all b (a .later);
+      later-fit = lift-fit ok d (suc (suc n)) b (a .later) (a .later-fit);
+    }

@@ -7,7 +7,8 @@ use mathlib.Core.List.{List, [], _∷_, _++_}
 use Prim.Native.Nat.{ℕ, zero, suc, _≤_, _<_}
 use native.Mathlib.Omega.{arith}
 use Rattle.heights.proofs.Heights.TightSlot.{TightSlot, tight-unique}
-use Rattle.heights.proofs.Sides.Tight.{chosen-within, chosen-bit}
+use Rattle.heights.proofs.Sides.Tight.{chosen-within}
+use Rattle.heights.proofs.Sides.Ahead.{chosen-bit}
 use Rattle.heights.proofs.Trees.Tree.{Tree, total}
 use Rattle.heights.proofs.Trees.NoRegret.{Down, NoRegret, no-regret-tight}
 use Rattle.heights.proofs.Trees.Run.{run-empty}
@@ -64,10 +65,7 @@ beaten ok j d n S A B w v h o g f nt =
         record {
           u = t .u;
           bits = t .bits;
-          first = [];
-          first-fit = tt;
-          later = [];
-          later-fit = tt;
+          by = record { first = []; first-fit = tt; later = []; later-fit = tt };
           wins = λ c e p q. omega (arith, t .less, run-empty p (t .u ++ zero-bit), run-empty q (t .u ++ zero-bit));
         }
     go (inr t) = t .answer

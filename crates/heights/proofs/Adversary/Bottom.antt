@@ -16,10 +16,10 @@ use Rattle.heights.proofs.Items.Item.{Item, part}
 use Rattle.heights.proofs.Items.Tree.{tree, slots}
 use Rattle.heights.proofs.Items.Both.{both, both-zero, both-one, both-count}
 use Rattle.heights.proofs.Adversary.Allowed.{both-fit, Grades, beyond}
-use Rattle.heights.proofs.Adversary.Arrivals.{arrival, arrival-past, arrival-out, arrival-in, arrival-fit, lift-all, lift-length, lift-by, lift-fit}
+use Rattle.heights.proofs.Adversary.Arrivals.{arrival, arrival-past, arrival-fit, lift-all, lift-length, lift-by, lift-fit}
 use Rattle.heights.proofs.Adversary.Arrivals.{copies, copies-low, copies-high, copies-fit, feed, feed-length, feed-fit, feed-by}
 use Rattle.heights.proofs.Adversary.Pinned.{Pinned, pinned-start}
-use Rattle.heights.proofs.Adversary.Bounds.{AtLeast}
+use Rattle.heights.proofs.Adversary.Bounds.{least-start, AtLeast}
 use Rattle.heights.proofs.Adversary.Most.{most}
 use Rattle.heights.proofs.Adversary.Least.{least}
 use Rattle.heights.proofs.Adversary.Trap.{Trap}
@@ -79,27 +79,7 @@ module _ (ok : Grades) (d n : ℕ) (S A B : Tree (suc d)) (w v g h : List Bool) 
   start-b : AtLeast m l E (suc n) (total d (after B false))
   start-b =
       let x = dates in
-      let f = E-facts in
-      let q = b .within in
-      let e = both-zero d B (arrival m (suc n) g) stuffing in
-      let past = arrival-past m (suc n) g in
-      let end : total d (after B false) .at (suc l) ≡ z .at (suc l) =
-      omega (arith, e (suc l), past (suc l) (omega arith), b .out .rest .high (suc l) (omega arith) (omega arith))
-      in
-      record {
-        wide = λ s i j. omega (arith, e s, past s j, b .out .rest .high s i (omega arith), b .tight .past s j);
-        due =
-            λ i.
-            omega (
-              arith,
-              e (suc n),
-              e (suc (suc n)),
-              arrival-in m (suc n) g i,
-              arrival-out m (suc n) g (suc (suc n)) (omega arith),
-              total d (B false) .anti (suc n) (suc (suc n)) (omega arith),
-            );
-        level = λ i. omega (arith, e (suc m), past (suc m) (omega arith), b .out .rest .high (suc m) (omega arith) (omega arith));
-      }
+      least-start g (total d (after B false)) (b .tight) (b .out) (b .within) (omega arith) (E-facts .2) (both-zero d B (arrival m (suc n) g) stuffing)
 
   abbrev later : List (List Item)
   later = lift-all false (feed m (suc n) k g)
@@ -136,15 +116,18 @@ module _ (ok : Grades) (d n : ℕ) (S A B : Tree (suc d)) (w v g h : List Bool) 
             record {
               u = [];
               bits = refl;
-              first = first;
-              first-fit =
-                  both-fit ok d (suc n) Z stuffing (arrival-fit (beyond false ok) d m (suc n) g gok gbits)
-                  (
-                  copies-fit (beyond true ok) d (suc n) (suc l - n) (record { last = l; grade = h })
-                  record { allowed = record { in-set = hok; bits = hbits }; date = omega arith }
-                  );
-              later = later;
-              later-fit = lift-fit ok d (suc (suc n)) false (feed m (suc n) k g) (feed-fit (beyond false ok) d m (suc n) k g gok gbits);
+              by =
+                  record {
+                    first = first;
+                    first-fit =
+                        both-fit ok d (suc n) Z stuffing (arrival-fit (beyond false ok) d m (suc n) g gok gbits)
+                        (
+                        copies-fit (beyond true ok) d (suc n) (suc l - n) (record { last = l; grade = h })
+                        record { allowed = record { in-set = hok; bits = hbits }; date = omega arith }
+                        );
+                    later = later;
+                    later-fit = lift-fit ok d (suc (suc n)) false (feed m (suc n) k g) (feed-fit (beyond false ok) d m (suc n) k g gok gbits);
+                  };
               wins = λ c e p q. omega (arith, at-most c p, at-least e q, wz, vz);
             };
         l = l;

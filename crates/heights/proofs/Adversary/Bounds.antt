@@ -63,6 +63,27 @@ pub record AtLeast (m l E t : ℕ) (z : Part) : Type 0 where
   pub due : t ≤ m → z .at (suc t) < z .at t
   pub level : t ≤ m → suc m + z .at (suc m) ≤ E + z .at (suc l)
 
+-- a job for slot t has arrived
+due-now : (m t : ℕ) (g : List Bool) (Y Z : Part) → ((s : ℕ) → Z .at s ≡ Y .at s + count (arrival m t g) s) → t ≤ m → Z .at (suc t) < Z .at t
+due-now m t g Y Z e h = omega (arith, e (suc t), e t, arrival-out m t g (suc t) (omega arith), arrival-in m t g h, Y .anti t (suc t) (omega arith))
+
+-- a tight job has left S, whose tight slot is m
+pub least-start : {n m l E p : ℕ} {S A : Part} (g : List Bool) (Z : Part) → TightSlot n S m → Out n p S A → p ≤ m → m ≤ l
+    → suc m + S .at (suc m) ≡ E + S .at (suc l) → ((s : ℕ) → Z .at s ≡ A .at s + count (arrival m (suc n) g) s) → AtLeast m l E (suc n) Z
+least-start {n} {m} {l} {E} {p} {S} {A} g Z T o pm ml f e =
+    record {
+      wide = λ s i j. omega (arith, end, left s i j, T .past s j);
+      due = due-now m (suc n) g A Z e;
+      level = λ i. omega (arith, end, left (suc m) (omega arith) (omega arith));
+    }
+  where
+    -- past m nothing has changed
+    left : (s : ℕ) → suc n ≤ s → m < s → Z .at s ≡ S .at s
+    left s i j = omega (arith, e s, arrival-past m (suc n) g s j, o .rest .high s i (omega arith))
+
+    end : Z .at (suc l) ≡ S .at (suc l)
+    end = left (suc l) (omega (arith, T .date)) (omega arith)
+
 pub least-some : {m l E t : ℕ} {z : Part} → AtLeast m l E t z → m ≤ l → t < E → E ≤ suc l → z .at (suc l) < z .at t
 least-some {m} {l} {E} {t} {z} I ml tE El =
     ⊎-elim
@@ -76,16 +97,7 @@ pub least-step : {m l E t r q : ℕ} {z y : Part} (g : List Bool) (Z : Part) →
 least-step {m} {l} {E} {t} {r} {q} {z} {y} g Z I ml tE El T o qr rl e =
     record {
       wide = λ s h k. ⊎-elim (λ (i : t ≤ m). early i s h k) (λ (i : m < t). late i s h k) (cmp t m);
-      due =
-          λ h.
-          omega (
-            arith,
-            e (suc (suc t)),
-            e (suc t),
-            arrival-out m (suc t) g (suc (suc t)) (omega arith),
-            arrival-in m (suc t) g h,
-            y .anti (suc t) (suc (suc t)) (omega arith),
-          );
+      due = due-now m (suc t) g y Z e;
       level =
           λ h.
           let rm = below (omega arith) in

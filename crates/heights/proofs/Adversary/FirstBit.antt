@@ -9,7 +9,7 @@ use native.Mathlib.Omega.{arith}
 use Rattle.heights.proofs.Heights.Part.{Same, cmp, fall-in}
 use Rattle.heights.proofs.Heights.TightSlot.{TightSlot, tight-unique, tight-same}
 use Rattle.heights.proofs.Sides.Board.{whole}
-use Rattle.heights.proofs.Sides.Tight.{chosen-one, TightTake, SideTake}
+use Rattle.heights.proofs.Sides.Tight.{Chosen, chosen-one, TightTake, SideTake}
 use Rattle.heights.proofs.Trees.Tree.{Tree, total, sides, OutTree, total-same, total-out, out-length}
 use Rattle.heights.proofs.Trees.NoRegret.{TightLeaf, Down, NoRegret}
 use Rattle.heights.proofs.Trees.Run.{starts}
@@ -49,6 +49,13 @@ zero-zero ok d n L S A B w v o T g a h =
     (λ f. absurd (omega (arith, a .within, alone d S (only-none (beyond true ok) d n (S true) (o true) f) T (r .tight))))
     (find d (beyond true ok))
 
+-- a tight job that is tight on its side, the side chosen, is one of order 1
+first-order : (d n : ℕ) (S A : Tree (suc d)) (b : Bool) (w : List Bool) {l m : ℕ} → Chosen n l (sides d S) b → (a : TightLeaf (suc d) n S A (b ∷ w))
+    → TightSlot n (total d (S b)) m → a .last ≤ m → NoRegret 1 (suc d) n S A (b ∷ w)
+unfolding NoRegret OutTree
+first-order d n S A b w {l} {m} c a T h =
+    record { slot = l; chosen = c; inner = record { slot = m; last = a .last; tight = T; out = a .out .0; within = h }; kept = a .out .1 }
+
 pub first-bit : (ok : Grades) (d n L : ℕ) (S A B : Tree (suc d)) (w v : List Bool) → Only ok (suc d) n S → TightSlot n (whole (sides d S)) L
     → NoRegret 0 (suc d) n S A w
     → NoRegret 1 (suc d) n S B v → ¬ NoRegret 1 (suc d) n S A w → Behind 0 w v ⊎ Trap ok 0 (suc d) n L A B w v
@@ -66,23 +73,7 @@ first-bit ok d n L S A B (false ∷ w) (true ∷ v) o T a g nt =
     )
     )
 first-bit ok d n L S A B (true ∷ w) (true ∷ v) o T a g nt =
-    absurd
-    (
-    nt
-    record {
-      slot = g .slot;
-      chosen = g .chosen;
-      inner =
-          record {
-            slot = g .slot;
-            last = a .last;
-            tight = chosen-one (g .chosen);
-            out = a .out .0;
-            within = omega (arith, a .within, tight-unique (a .tight) (g .chosen .tight));
-          };
-      kept = a .out .1;
-    }
-    )
+    absurd (nt (first-order d n S A true w (g .chosen) a (chosen-one (g .chosen)) (omega (arith, a .within, tight-unique (a .tight) (g .chosen .tight)))))
 -- the job goes on with 1
 first-bit ok d n L S A B (true ∷ w) (false ∷ v) o T a g nt = inl (record { u = []; bits = refl; less = omega arith })
 -- the job goes on with 0
@@ -90,16 +81,6 @@ first-bit ok d n L S A B (false ∷ w) (false ∷ v) o T a g nt =
     let r = g .inner in
     ⊎-elim
     {C = Behind 0 (false ∷ w) (false ∷ v) ⊎ Trap ok 0 (suc d) n L A B (false ∷ w) (false ∷ v)}
-    (λ (h : a .last ≤ r .slot).
-    absurd
-    (
-    nt
-    record {
-      slot = g .slot;
-      chosen = g .chosen;
-      inner = record { slot = r .slot; last = a .last; tight = r .tight; out = a .out .0; within = h };
-      kept = a .out .1;
-    }
-    ))
+    (λ (h : a .last ≤ r .slot). absurd (nt (first-order d n S A false w (g .chosen) a (r .tight) h)))
     (λ (h : r .slot < a .last). inr (zero-zero ok d n L S A B w v o T g a h))
     (cmp (a .last) (r .slot))

@@ -7,7 +7,7 @@ use native.Mathlib.Omega.{arith}
 use lib.ListN.{length}
 use Rattle.heights.proofs.Sides.Board.{whole}
 use Rattle.heights.proofs.Sides.Tight.{Chosen}
-use Rattle.heights.proofs.Trees.Tree.{Tree, total, sides, join-tree, total-same}
+use Rattle.heights.proofs.Trees.Tree.{Tree, total, sides, join-tree, total-same, SameTree}
 use Rattle.heights.proofs.Trees.NoRegret.{Down, NoRegret, no-regret-tight, no-regret-whole}
 use Rattle.heights.proofs.Trees.Run.{starts, starts-here, Count, Step, rest, take, Run, stop, serve}
 use Rattle.heights.proofs.Items.Item.{Item, count, part}
@@ -43,28 +43,33 @@ held-bit {t} {l} {r = r} d X false true H h c =
 held-bit {t} {L = L} {r} d X true false H h c =
     absurd (omega (arith, c .pick, H .clean refl, total d (X false) .anti (suc r) (suc L) (omega (arith, pinned-le (H .pinned) h (c .tight)))))
 
+-- no job of the other side is up to L, none leaves it, and none arrives there
+pub clean-next : {t L : ℕ} (d : ℕ) (b : Bool) (X T : Tree (suc d)) (F : List Item) → t ≤ L → SameTree d (suc t) (X (not b)) (T (not b))
+    → total d (X (not b)) .at t ≡ total d (X (not b)) .at (suc L)
+    → total d (arrive d b T F (not b)) .at (suc t) ≡ total d (arrive d b T F (not b)) .at (suc L)
+clean-next {t} {L} d b X T F h k e =
+    let z = total d (X (not b)) in
+    let s = total-same d (suc t) (X (not b)) (T (not b)) k in
+    omega (
+      arith,
+      arrive-other d b T F (suc t),
+      arrive-other d b T F (suc L),
+      s .is (suc t) (omega arith),
+      s .is (suc L) (omega arith),
+      z .anti t (suc t) (omega arith),
+      z .anti (suc t) (suc L) (omega arith),
+    )
+
 held-down : (i d t l L : ℕ) (b : Bool) (X T : Tree (suc d)) (F : List Item) (w : List Bool) → Held d t l L b X → suc t ≤ l → count F (suc l) ≡ 0
     → Down d t X T b (NoRegret i d t (X b) (T b) w) → Held d (suc t) l L b (arrive d b T F)
 held-down i d t l L b X T F w H h f g =
     let o = no-regret-whole (suc i) d t X T (b ∷ w) (unfold NoRegret in g) in
     let p = no-regret-tight i d t (X b) (T b) w (g .inner) in
-    let k = total-same d (suc t) (X (not b)) (T (not b)) (g .kept) in
     let y = H .pinned .upto in
     record {
       pinned = pinned-step (part F) (whole (sides d (arrive d b T F))) (H .pinned) h o f (arrive-whole d b T F);
       stuffed = stuffed-step (part F) (total d (arrive d b T F b)) (H .stuffed) h (p .out) f (arrive-here d b T F);
-      clean =
-          λ e.
-          omega (
-            arith,
-            H .clean e,
-            arrive-other d b T F (suc t),
-            arrive-other d b T F (suc L),
-            k .is (suc t) (omega arith),
-            k .is (suc L) (omega arith),
-            total d (X (not b)) .anti t (suc t) (omega arith),
-            total d (X (not b)) .anti (suc t) (suc L) (omega arith),
-          );
+      clean = λ e. clean-next d b X T F (omega arith) (g .kept) (H .clean e);
     }
 
 -- a step goes down to side b

@@ -9,10 +9,10 @@ use lib.ListN.{length}
 use Rattle.heights.proofs.Heights.Part.{Part, _⊕_, Out, out-less, not-above}
 use Rattle.heights.proofs.Heights.TightSlot.{TightSlot}
 use Rattle.heights.proofs.Schedule.Run.{TightStep, AnyStep, stop, next, TightRun, Schedule, sum}
-use Rattle.heights.proofs.Items.Item.{Item, part, parts, Each}
-use Rattle.heights.proofs.Adversary.Allowed.{Grades, Fit, AllFit}
-use Rattle.heights.proofs.Adversary.Arrivals.{arrival, arrival-past, arrival-out, arrival-in, arrival-fit, feed, feed-fit}
-use Rattle.heights.proofs.Adversary.Bounds.{Shrinks, AtMost, most-step, shrink-out, shrink-none, AtLeast, least-some, least-step}
+use Rattle.heights.proofs.Items.Item.{part, parts}
+use Rattle.heights.proofs.Adversary.Allowed.{Grades, Arrivals}
+use Rattle.heights.proofs.Adversary.Arrivals.{arrival, arrival-past, arrival-fit, feed, feed-fit}
+use Rattle.heights.proofs.Adversary.Bounds.{least-start, Shrinks, AtMost, most-step, shrink-out, shrink-none, AtLeast, least-some, least-step}
 
 -- b is past every job
 module _ (m b : ℕ) (g : List Bool) (mb : m ≤ b) where
@@ -51,13 +51,10 @@ module _ (m b : ℕ) (g : List Bool) (mb : m ≤ b) where
         least E k (suc t) (T ⊕ part (arrival m (suc t) g)) ks Eb (omega arith) (omega (arith, s .2, arrival-past m (suc t) g (suc b) (omega arith))) (s .1) r,
       )
 
--- the adversary's answer: what arrives when slot n has ended, and after each slot from then on
+-- arrivals on which what goes on from A takes fewer than what goes on tight from C
 pub record Beaten0 (ok : Grades) (d n : ℕ) (A C : Part) : Type 0 where
-  pub first : List Item
-  pub first-fit : Each (Fit ok d (suc n)) first
-  pub later : List (List Item)
-  pub later-fit : AllFit ok d (suc (suc n)) later
-  pub wins : (cs es : List ℕ) → Schedule (suc n) (A ⊕ part first) (parts later) cs → TightRun (suc n) (C ⊕ part first) (parts later) es
+  pub by : Arrivals ok d n
+  pub wins : (cs es : List ℕ) → Schedule (suc n) (A ⊕ part (by .first)) (parts (by .later)) cs → TightRun (suc n) (C ⊕ part (by .first)) (parts (by .later)) es
       → sum cs < sum es
 
 pub beaten0 : {n l p q : ℕ} {S A C : Part} (ok : Grades) (d : ℕ) (g : List Bool) → ok g ≡ true → length g ≡ d → TightSlot n S l → Out n p S A → l < p
@@ -72,18 +69,15 @@ beaten0 {n} {l} {p} {q} {S} {A} {C} ok d g gok gbits T a lp c ql =
     let none : S .at (suc b) ≡ 0 = omega (arith, S .none, S .anti (S .end) (suc b) (omega arith)) in
     let a-none : A .at (suc b) ≡ 0 = omega (arith, out-less a (suc b) (omega arith)) in
     let c-none : C .at (suc b) ≡ 0 = omega (arith, out-less c (suc b) (omega arith)) in
-    let I : AtLeast l b E (suc n) (C ⊕ part F) =
+    let I : AtLeast l b E (suc n) (C ⊕ part F) = least-start g (C ⊕ part F) T c ql (omega arith) (omega arith) (λ s. refl) in
     record {
-      wide = λ s h k. omega (arith, past s k, c .rest .high s h (omega arith), T .past s k, past (suc b) (omega arith));
-      due = λ h. omega (arith, arrival-in l (suc n) g h, arrival-out l (suc n) g (suc (suc n)) (omega arith), C .anti (suc n) (suc (suc n)) (omega arith));
-      level = λ h. omega (arith, past (suc l) (omega arith), c .rest .high (suc l) (omega arith) (omega arith));
-    }
-    in
-    record {
-      first = F;
-      first-fit = arrival-fit ok d l (suc n) g gok gbits;
-      later = feed l (suc n) (E - suc n) g;
-      later-fit = feed-fit ok d l (suc n) (E - suc n) g gok gbits;
+      by =
+          record {
+            first = F;
+            first-fit = arrival-fit ok d l (suc n) g gok gbits;
+            later = feed l (suc n) (E - suc n) g;
+            later-fit = feed-fit ok d l (suc n) (E - suc n) g gok gbits;
+          };
       wins =
           λ cs es r s.
           omega (

@@ -1,5 +1,5 @@
 -- A trap on side b, the side chosen, is a trap with the bit b in front.
-use mathlib.Core.Path.{_≡_, ap}
+use mathlib.Core.Path.{_≡_, sym, ap, subst}
 use mathlib.Core.Bool.{Bool, true, false, not, false≢true}
 use mathlib.Core.List.{List, _∷_, _++_}
 use Prim.Native.Nat.{ℕ, suc, _≤_}
@@ -7,18 +7,17 @@ use native.Mathlib.Omega.{arith}
 use Rattle.heights.proofs.Heights.TightSlot.{TightSlot, tight-unique}
 use Rattle.heights.proofs.Sides.Board.{Sides, whole}
 use Rattle.heights.proofs.Sides.Tight.{Chosen}
-use Rattle.heights.proofs.Trees.Tree.{Tree, total, sides, join-tree, total-same}
+use Rattle.heights.proofs.Trees.Tree.{Tree, total, sides, join-tree}
 use Rattle.heights.proofs.Trees.NoRegret.{Down, NoRegret, no-regret-whole}
 use Rattle.heights.proofs.Trees.Run.{starts-here, Count, Run}
 use Rattle.heights.proofs.Trees.Flatten.{zero-bit}
 use Rattle.heights.proofs.Items.Item.{part}
-use Rattle.heights.proofs.Items.Side.{lift}
 use Rattle.heights.proofs.Items.Tree.{tree, slots}
-use Rattle.heights.proofs.Items.Lift.{lift-count, arrive, arrive-here, arrive-other, arrive-whole}
-use Rattle.heights.proofs.Adversary.Allowed.{Grades, beyond, each-lift}
-use Rattle.heights.proofs.Adversary.Arrivals.{lift-all, lift-length, lift-by, lift-fit}
+use Rattle.heights.proofs.Items.Lift.{lift-count, arrive, arrive-here, arrive-whole}
+use Rattle.heights.proofs.Adversary.Allowed.{Grades, beyond}
+use Rattle.heights.proofs.Adversary.Arrivals.{lift-arrivals, lift-all, lift-length, lift-by}
 use Rattle.heights.proofs.Adversary.Pinned.{stuffed-start, pinned-start}
-use Rattle.heights.proofs.Adversary.Held.{Held, down, restrict}
+use Rattle.heights.proofs.Adversary.Held.{clean-next, Held, down, restrict}
 use Rattle.heights.proofs.Adversary.Trap.{Trap, Behind}
 
 chosen-clean : {n l : ℕ} {S : Sides} (b : Bool) → Chosen n l S b → b ≡ true → S (not b) .at (suc l) ≡ S (not b) .at n
@@ -29,13 +28,10 @@ module _ (ok : Grades) (j d n L K : ℕ) (b : Bool) (S A B : Tree (suc d)) (w v 
     (t : Trap (beyond b ok) j d n K (A b) (B b) w v) where
   -- after a job of side b has left, the stuffing holds the runs there
   held : (i : ℕ) (X : Tree (suc d)) (x : List Bool) → Down d n S X b (NoRegret i d n (S b) (X b) x)
-      → Held d (suc n) (t .l) L b (arrive d b X (t .answer .first))
+      → Held d (suc n) (t .l) L b (arrive d b X (t .answer .by .first))
   held i X x g =
-      let F = t .answer .first in
+      let F = t .answer .by .first in
       let o = no-regret-whole (suc i) d n S X (b ∷ x) (unfold NoRegret in g) in
-      let k = total-same d (suc n) (S (not b)) (X (not b)) (g .kept) in
-      let z = total d (S (not b)) in
-      let e = tight-unique T (g .chosen .tight) in
       record {
         pinned =
             pinned-start (part F) (whole (sides d (arrive d b X F))) T o (t .date) (omega (arith, t .upto)) (t .stuffs) (t .first-by)
@@ -43,27 +39,16 @@ module _ (ok : Grades) (j d n L K : ℕ) (b : Bool) (S A B : Tree (suc d)) (w v 
         stuffed = stuffed-start (total d (X b)) (part F) (total d (arrive d b X F b)) (t .stuffs) (t .first-by) (arrive-here d b X F);
         clean =
             λ h.
-            omega (
-              arith,
-              T .date,
-              chosen-clean b (g .chosen) h,
-              arrive-other d b X F (suc n),
-              arrive-other d b X F (suc L),
-              k .is (suc n) (omega arith),
-              k .is (suc L) (omega (arith, T .date)),
-              z .anti n (suc n) (omega arith),
-              z .anti (suc n) (suc L) (omega (arith, T .date)),
-              z .anti (suc L) (suc (g .slot)) (omega arith),
-              z .anti (suc (g .slot)) (suc L) (omega arith),
-            );
+            clean-next d b S X F (T .date) (g .kept)
+            (subst (λ l. total d (S (not b)) .at n ≡ total d (S (not b)) .at (suc l)) (sym (tight-unique T (g .chosen .tight))) (sym (chosen-clean b (g .chosen) h)));
       }
 
   on-side : (i : ℕ) (X : Tree (suc d)) (x : List Bool) (c : Count) → Down d n S X b (NoRegret i d n (S b) (X b) x)
-      → Run (suc i) (suc d) (suc n) (arrive d b X (t .answer .first)) (slots (suc d) (lift-all b (t .answer .later))) c
-      → Run i d (suc n) (join-tree d (X b) (tree d (t .answer .first))) (slots d (t .answer .later)) (λ z. c (b ∷ z))
+      → Run (suc i) (suc d) (suc n) (arrive d b X (t .answer .by .first)) (slots (suc d) (lift-all b (t .answer .by .later))) c
+      → Run i d (suc n) (join-tree d (X b) (tree d (t .answer .by .first))) (slots d (t .answer .by .later)) (λ z. c (b ∷ z))
   on-side i X x c g r =
-      down b X (t .answer .first) (t .answer .later)
-      (restrict i d (t .l) L (suc n) b (t .answer .later) (arrive d b X (t .answer .first)) c (t .later-by) (omega (arith, t .few)) (λ q. held i X x g) r)
+      down b X (t .answer .by .first) (t .answer .by .later)
+      (restrict i d (t .l) L (suc n) b (t .answer .by .later) (arrive d b X (t .answer .by .first)) c (t .later-by) (omega (arith, t .few)) (λ q. held i X x g) r)
 
   pub lifted-trap : Down d n S A b (NoRegret j d n (S b) (A b) w) → Down d n S B b (NoRegret (suc j) d n (S b) (B b) v)
       → Trap ok (suc j) (suc d) n L A B (b ∷ w) (b ∷ v)
@@ -74,10 +59,7 @@ module _ (ok : Grades) (j d n L K : ℕ) (b : Bool) (S A B : Tree (suc d)) (w v 
             record {
               u = b ∷ x .u;
               bits = ap suc (x .bits);
-              first = lift b (x .first);
-              first-fit = each-lift ok d (suc n) b (x .first) (x .first-fit);
-              later = lift-all b (x .later);
-              later-fit = lift-fit ok d (suc (suc n)) b (x .later) (x .later-fit);
+              by = lift-arrivals b (x .by);
               wins =
                   λ c e p q.
                   omega (
@@ -90,10 +72,10 @@ module _ (ok : Grades) (j d n L K : ℕ) (b : Bool) (S A B : Tree (suc d)) (w v 
         l = t .l;
         date = t .date;
         upto = omega (arith, t .upto);
-        stuffs = omega (arith, lift-count b (x .first) (t .l), t .stuffs);
-        first-by = omega (arith, lift-count b (x .first) (suc (t .l)), t .first-by);
-        later-by = lift-by (t .l) b (x .later) (t .later-by);
-        few = omega (arith, lift-length b (x .later), t .few);
+        stuffs = omega (arith, lift-count b (x .by .first) (t .l), t .stuffs);
+        first-by = omega (arith, lift-count b (x .by .first) (suc (t .l)), t .first-by);
+        later-by = lift-by (t .l) b (x .by .later) (t .later-by);
+        few = omega (arith, lift-length b (x .by .later), t .few);
       }
 
 pub lifted-behind : (j : ℕ) (b : Bool) (w v : List Bool) → Behind j w v → Behind (suc j) (b ∷ w) (b ∷ v)

@@ -8,21 +8,17 @@ use lib.ListN.{length}
 use Rattle.heights.proofs.Trees.Tree.{Tree, join-tree}
 use Rattle.heights.proofs.Trees.Run.{starts, Count, Run}
 use Rattle.heights.proofs.Trees.Flatten.{zero-bit}
-use Rattle.heights.proofs.Items.Item.{Item, count, Each}
+use Rattle.heights.proofs.Items.Item.{count}
 use Rattle.heights.proofs.Items.Tree.{tree, slots}
-use Rattle.heights.proofs.Adversary.Allowed.{Grades, Fit, AllFit}
+use Rattle.heights.proofs.Adversary.Allowed.{Grades, Arrivals}
 use Rattle.heights.proofs.Adversary.Arrivals.{AllBy}
 
--- what arrives when slot n has ended, and after each slot from then on, all of them served
 pub record Beaten (ok : Grades) (j d n : ℕ) (A B : Tree d) (w v : List Bool) : Type 0 where
   pub u : List Bool
   pub bits : length u ≡ j
-  pub first : List Item
-  pub first-fit : Each (Fit ok d (suc n)) first
-  pub later : List (List Item)
-  pub later-fit : AllFit ok d (suc (suc n)) later
-  pub wins : (c e : Count) → Run j d (suc n) (join-tree d A (tree d first)) (slots d later) c
-      → Run (suc j) d (suc n) (join-tree d B (tree d first)) (slots d later) e
+  pub by : Arrivals ok d n
+  pub wins : (c e : Count) → Run j d (suc n) (join-tree d A (tree d (by .first))) (slots d (by .later)) c
+      → Run (suc j) d (suc n) (join-tree d B (tree d (by .first))) (slots d (by .later)) e
       → starts (u ++ zero-bit) w + c (u ++ zero-bit) < starts (u ++ zero-bit) v + e (u ++ zero-bit)
 
 -- so made that the first arrivals hold the stuffing with last slot l, and nothing can wait past it
@@ -31,10 +27,10 @@ pub record Trap (ok : Grades) (j d n L : ℕ) (A B : Tree d) (w v : List Bool) :
   pub l : ℕ
   pub date : n < l
   pub upto : l ≤ L
-  pub stuffs : l + 1 ≤ count (answer .first) l + n
-  pub first-by : count (answer .first) (suc l) ≡ 0
-  pub later-by : AllBy l (answer .later)
-  pub few : length (answer .later) + n ≤ l
+  pub stuffs : l + 1 ≤ count (answer .by .first) l + n
+  pub first-by : count (answer .by .first) (suc l) ≡ 0
+  pub later-by : AllBy l (answer .by .later)
+  pub few : length (answer .by .later) + n ≤ l
 
 -- or w is less at once
 pub record Behind (j : ℕ) (w v : List Bool) : Type 0 where

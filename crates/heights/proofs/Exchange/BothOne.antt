@@ -11,7 +11,7 @@ use Rattle.heights.proofs.Heights.Exists.{EarliestSlot, earliest, take-
 use Rattle.heights.proofs.Heights.Removal.{removal}
 use Rattle.heights.proofs.Sides.Board.{Sides, whole}
 use Rattle.heights.proofs.Exchange.Condition.{Redundant, Exchanged, past-y, exchange-forth}
-use Rattle.heights.proofs.Exchange.Later.{before-later, after-later}
+use Rattle.heights.proofs.Exchange.Later.{redundant-later}
 
 -- Q has no tight 0-job. Then x and y are beyond its tight slot, and P has no tight 0-job either
 
@@ -72,10 +72,5 @@ both-take-one {n} {m} {e} {x} {y} {P} {Q} {R} {S} E nx U none em p kp q kq =
     record {
       x-more = more-same (suc n) (omega arith) (E .x-more) kq kp;
       y-more = more-out (E .y-more) p q;
-      either =
-          ⊎-elim
-          {C = Redundant (suc n) x y (R false) (S true)}
-          (λ L. inl (before-later L (λ s h j. kp .is s h) (λ s h j. q .rest .high s h (omega arith))))
-          (λ H. inr (after-later H (λ s h j. kp .is s h) (λ s h j. q .rest .high s h (omega arith))))
-          (E .either);
+      either = redundant-later e (omega arith) (omega arith) (E .either) kp (λ s h j. q .rest .high s h j);
     }

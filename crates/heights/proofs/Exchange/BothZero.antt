@@ -4,7 +4,7 @@ use mathlib.Core.Bool.{true, false}
 use mathlib.Core.Logic.{inl, inr, ⊎-elim}
 use Prim.Native.Nat.{ℕ, suc, _+_, _≤_, _<_}
 use native.Mathlib.Omega.{arith}
-use Rattle.heights.proofs.Heights.Part.{Same, Out, cmp, above}
+use Rattle.heights.proofs.Heights.Part.{Part, Same, Out, cmp, above}
 use Rattle.heights.proofs.Heights.OneMore.{more-le, more-out, more-same}
 use Rattle.heights.proofs.Heights.TightSlot.{TightSlot}
 use Rattle.heights.proofs.Heights.Exists.{EarliestSlot}
@@ -54,6 +54,20 @@ dip {n} {l} {x} {y} {P} {Q} E nx T e el s h k j = ⊎-elim (λ g. flat g (exchan
         (λ (i : e < t). (t, i, omega (arith, same t nt, same s (omega arith), same n (omega arith))))
         (cmp t e)
 
+-- the earliest job e leaves A: a place beyond x that was lower by one than s, up to e, is no higher, and the jobs at s count as those at e
+pub lower : {n e : ℕ} {A B C D : Part} (x : ℕ) → EarliestSlot n A e → Out n e A C → Same (suc n) B D → e ≤ x → (s : ℕ) → suc n ≤ s → s ≤ e
+    → (t : ℕ) × (x < t) × (t + A .at t + B .at t < s + A .at s + B .at s)
+    → (t : ℕ) × (x < t) × (t + C .at t + D .at t ≤ s + C .at s + D .at s) × (t + C .at t + D .at t ≤ s + C .at e + D .at s)
+lower {e = e} x F p k ex s h j (t, i, q) =
+    let a = p .rest .high t (omega arith) (omega arith) in
+    let b = k .is t (omega arith) in
+    let c = k .is s h in (
+      t,
+      i,
+      omega (arith, p .rest .low s h j),
+      omega (arith, p .rest .low e (omega arith) (omega arith), F .same e (F .date) (omega arith), F .same s (omega arith) j),
+    )
+
 -- both have a tight 0-job, the earliest 0-job e of P is at x or before: both take e
 pub both-take : {n l e x y : ℕ} {P Q R S : Sides} → Exchanged n x y P Q → n ≤ x → TightSlot n (whole P) l → EarliestSlot n (P false) e → e ≤ l → e ≤ x
     → Out n e (P false) (R false) → Same (suc n) (P true) (R true)
@@ -89,28 +103,12 @@ both-take {n} {l} {e} {x} {y} {P} {Q} {R} {S} E nx T F el ex p kp q kq =
               λ s h k f j.
               ⊎-elim
               {C = (t : ℕ) × (x < t) × (t + R false .at t + S true .at t ≤ s + R false .at s + S true .at s)}
-              (λ (c : s ≤ e).
-              let t = deep L g s h k c in
-              (t .0, t .1, omega (arith, p .rest .low s h c, p .rest .high (t .0) (omega arith) (omega arith), kq .is s h, kq .is (t .0) (omega arith))))
+              (λ (c : s ≤ e). let t = lower x F p kq ex s h c (deep L g s h k c) in (t .0, t .1, t .2))
               (λ (c : e < s).
               let t = L .over s (omega arith) k (omega arith) j in
               (t .0, t .1, omega (arith, p .rest .high s h c, p .rest .high (t .0) (omega arith) (omega arith), kq .is s h, kq .is (t .0) (omega arith))))
               (cmp s e);
-          under =
-              λ s h k j.
-              let t = deep L g s h k j in (
-                t .0,
-                t .1,
-                omega (
-                  arith,
-                  p .rest .low e (omega arith) (omega arith),
-                  F .same e (F .date) (omega arith),
-                  F .same s (omega arith) j,
-                  p .rest .high (t .0) (omega arith) (omega arith),
-                  kq .is s h,
-                  kq .is (t .0) (omega arith),
-                ),
-              );
+          under = λ s h k j. let t = lower x F p kq ex s h j (deep L g s h k j) in (t .0, t .1, t .3);
         }
 
     go : Redundant n x y (P false) (Q true) → Redundant (suc n) x y (R false) (S true)

@@ -1,10 +1,10 @@
 -- P and Q differ in one job each: Q has a 0-job x where P has a 1-job y, both named by their last slots; y may have expired.
 -- What both have is X: its 0-jobs are P's, its 1-jobs are Q's. A job is redundant where for each height there is a later one beyond it that is no more.
 use mathlib.Core.Bool.{true, false}
-use mathlib.Core.Logic.{_⊎_, inl, inr, ⊎-elim}
+use mathlib.Core.Logic.{_⊎_, ⊎-elim}
 use Prim.Native.Nat.{ℕ, _+_, _≤_, _<_}
 use native.Mathlib.Omega.{arith}
-use Rattle.heights.proofs.Heights.Part.{Part, OneMore, cmp}
+use Rattle.heights.proofs.Heights.Part.{Part, _⊕_, OneMore, more-at, at-more, cmp}
 use Rattle.heights.proofs.Heights.Reach.{Reach}
 use Rattle.heights.proofs.Sides.Board.{Sides, whole}
 
@@ -42,29 +42,41 @@ past-y {n} {x} {y} {A} {B} L s h k j =
         → (t : ℕ) × (x < t) × (t + A .at t + B .at t ≤ s + A .at s + B .at s)
     low g t = (t .0, t .1, omega (arith, A .anti s (L .mark) (omega arith)))
 
--- as wholes, P and Q reach each other
-pub exchange-forth : {n x y : ℕ} {P Q : Sides} → Exchanged n x y P Q → Reach n 0 (whole P) (whole Q)
-exchange-forth {n} {x} {y} {P} {Q} e = record { to = λ s h. go s h (e .either) (cmp s x) (cmp s y) }
-  where
-    go : (s : ℕ) → n ≤ s → Redundant n x y (P false) (Q true) → (s ≤ x) ⊎ (x < s) → (s ≤ y) ⊎ (y < s)
-        → (t : ℕ) × (s ≤ t) × (t + whole Q .at t ≤ s + whole P .at s + 0)
-    go s h d (inl a) (inl b) = (s, omega arith, omega (arith, e .x-more .low s h a, e .y-more .low s h b))
-    go s h d (inr a) (inl b) = (s, omega arith, omega (arith, e .x-more .high s h a, e .y-more .low s h b))
-    go s h d (inr a) (inr b) = (s, omega arith, omega (arith, e .x-more .high s h a, e .y-more .high s h b))
-    go s h (inl L) (inl a) (inr b) =
-        let t = past-y L s h b a in
-        (t .0, omega arith, omega (arith, e .x-more .high (t .0) (omega arith) (t .1), e .y-more .high s h b))
-    go s h (inr H) (inl a) (inr b) = absurd (omega (arith, H .late))
+-- A is X and a job y, B is X and a job x: A reaches B if x is redundant in X past y
+gap-reach : {n x y : ℕ} {A B X : Part} → OneMore n y A X → OneMore n x B X
+    → ((s : ℕ) → n ≤ s → y < s → s ≤ x → (t : ℕ) × (x < t) × (t + X .at t ≤ s + X .at s)) → Reach n 0 A B
+gap-reach {n} {x} {y} {A} {B} a b f =
+    record {
+      to =
+          λ s h.
+          ⊎-elim
+          {C = (t : ℕ) × (s ≤ t) × (t + B .at t ≤ s + A .at s + 0)}
+          (λ (i : s ≤ x).
+          ⊎-elim
+          (λ (j : s ≤ y). (s, omega arith, omega (arith, more-at a s h, more-at b s h)))
+          (λ (j : y < s). let t = f s h j i in (t .0, omega arith, omega (arith, a .high s h j, b .high (t .0) (omega arith) (t .1))))
+          (cmp s y))
+          (λ (i : x < s). (s, omega arith, omega (arith, more-at a s h, more-at b s h)))
+          (cmp s x);
+    }
 
-pub exchange-back : {n x y : ℕ} {P Q : Sides} → Exchanged n x y P Q → Reach n 0 (whole Q) (whole P)
-exchange-back {n} {x} {y} {P} {Q} e = record { to = λ s h. go s h (e .either) (cmp s x) (cmp s y) }
-  where
-    go : (s : ℕ) → n ≤ s → Redundant n x y (P false) (Q true) → (s ≤ x) ⊎ (x < s) → (s ≤ y) ⊎ (y < s)
-        → (t : ℕ) × (s ≤ t) × (t + whole P .at t ≤ s + whole Q .at s + 0)
-    go s h d (inl a) (inl b) = (s, omega arith, omega (arith, e .x-more .low s h a, e .y-more .low s h b))
-    go s h d (inl a) (inr b) = (s, omega arith, omega (arith, e .x-more .low s h a, e .y-more .high s h b))
-    go s h d (inr a) (inr b) = (s, omega arith, omega (arith, e .x-more .high s h a, e .y-more .high s h b))
-    go s h (inr H) (inr a) (inl b) =
-        let t = H .redundant s h a b in
-        (t .0, omega arith, omega (arith, e .y-more .high (t .0) (omega arith) (t .1), e .x-more .high s h a))
-    go s h (inl L) (inr a) (inl b) = absurd (omega (arith, L .early))
+-- as wholes, P and Q reach each other
+module _ {n x y : ℕ} {P Q : Sides} (e : Exchanged n x y P Q) where
+  abbrev X : Part
+  X = P false ⊕ Q true
+
+  with-y : OneMore n y (whole P) X
+  with-y = at-more (λ s h. omega (arith, more-at (e .y-more) s h))
+
+  with-x : OneMore n x (whole Q) X
+  with-x = at-more (λ s h. omega (arith, more-at (e .x-more) s h))
+
+  pub exchange-forth : Reach n 0 (whole P) (whole Q)
+  exchange-forth =
+      gap-reach with-y with-x
+      (λ s h j i. ⊎-elim (λ L. let t = past-y L s h j i in (t .0, t .1, omega arith)) (λ H. absurd (omega (arith, H .late))) (e .either))
+
+  pub exchange-back : Reach n 0 (whole Q) (whole P)
+  exchange-back =
+      gap-reach with-x with-y
+      (λ s h j i. ⊎-elim (λ L. absurd (omega (arith, L .early))) (λ H. let t = H .redundant s h j i in (t .0, t .1, omega arith)) (e .either))

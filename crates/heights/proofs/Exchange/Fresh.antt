@@ -2,7 +2,7 @@
 use mathlib.Core.Path.{_≡_}
 use mathlib.Core.Bool.{true, false}
 use mathlib.Core.Logic.{_⊎_, inl, inr}
-use Prim.Native.Nat.{ℕ, suc, _≤_, _<_}
+use Prim.Native.Nat.{ℕ, suc, _+_, _≤_, _<_}
 use native.Mathlib.Omega.{arith}
 use Rattle.heights.proofs.Heights.Part.{Same, Out, cmp, fall-in, not-above, same-refl}
 use Rattle.heights.proofs.Heights.OneMore.{more-same}
@@ -24,11 +24,14 @@ exchange-fresh {n} {l} {m} {x} {y} {P} {Q} S T U a xm xl ka b yl kb =
     first : (e : ℕ) × EarliestSlot n (S false) e
     first = earliest n (S false) (omega (arith, fall-in x a (omega arith)))
 
-    beyond : P false .at (suc l) ≡ S false .at (suc l)
-    beyond = omega (arith, a .rest .high (suc l) (omega (arith, T .date)) (omega arith))
+    -- past l nothing has left
+    beyond : P false .at (suc l) + Q true .at (suc l) ≡ whole S .at (suc l)
+    beyond = omega (arith, a .rest .high (suc l) (omega (arith, T .date)) (omega arith), b .rest .high (suc l) (omega (arith, T .date)) (omega arith))
 
-    beyond-o : Q true .at (suc l) ≡ S true .at (suc l)
-    beyond-o = omega (arith, b .rest .high (suc l) (omega (arith, T .date)) (omega arith))
+    -- so past l is lower than where it was higher than there by one
+    low : (s : ℕ) → suc n ≤ s → s ≤ l → whole S .at s < whole S .at n → (h : ℕ) → whole S .at s ≤ suc h
+        → suc l + P false .at (suc l) + Q true .at (suc l) ≤ s + h
+    low s h j f k i = omega (arith, beyond, T .upto s (omega arith) j f)
 
     hi : x ≤ y → After (suc n) x y (P false) (Q true)
     hi g =
@@ -40,11 +43,8 @@ exchange-fresh {n} {l} {m} {x} {y} {P} {Q} S T U a xm xl ka b yl kb =
                 omega arith,
                 omega (
                   arith,
-                  beyond,
-                  beyond-o,
-                  a .rest .high s h k,
-                  b .rest .low s h j,
-                  T .upto s (omega arith) (omega arith) (omega (arith, fall-in x a (omega arith), S false .anti (suc x) s k, S true .anti n s (omega arith))),
+                  low s h (omega arith) (omega (arith, fall-in x a (omega arith), S false .anti (suc x) s k, S true .anti n s (omega arith)))
+                      (P false .at s + Q true .at s) (omega (arith, a .rest .high s h k, b .rest .low s h j)),
                 ),
               );
         }
@@ -77,7 +77,7 @@ exchange-fresh {n} {l} {m} {x} {y} {P} {Q} S T U a xm xl ka b yl kb =
               λ s h k f j. (
                 suc l,
                 omega arith,
-                omega (arith, beyond, beyond-o, a .rest .low s h j, b .rest .high s h k, T .upto s (omega arith) (omega arith) (all-low s (omega arith) k)),
+                omega (arith, low s h (omega arith) (all-low s (omega arith) k) (P false .at s + Q true .at s) (omega (arith, a .rest .low s h j, b .rest .high s h k))),
               );
           under =
               λ s h k j. (
@@ -85,13 +85,8 @@ exchange-fresh {n} {l} {m} {x} {y} {P} {Q} S T U a xm xl ka b yl kb =
                 omega arith,
                 omega (
                   arith,
-                  beyond,
-                  beyond-o,
-                  a .rest .low e (omega arith) ex,
-                  F .same e (F .date) (omega arith),
-                  F .same s (omega arith) j,
-                  b .rest .high s h k,
-                  T .upto s (omega arith) (omega arith) (all-low s (omega arith) k),
+                  low s h (omega arith) (all-low s (omega arith) k) (P false .at e + Q true .at s)
+                      (omega (arith, a .rest .low e (omega arith) ex, F .same e (F .date) (omega arith), F .same s (omega arith) j, b .rest .high s h k)),
                 ),
               );
         }

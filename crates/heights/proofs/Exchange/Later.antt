@@ -4,7 +4,7 @@ use mathlib.Core.Bool.{true, false}
 use mathlib.Core.Logic.{_⊎_, inl, inr, ⊎-elim}
 use Prim.Native.Nat.{ℕ, suc, _≤_, _<_}
 use native.Mathlib.Omega.{arith}
-use Rattle.heights.proofs.Heights.Part.{Part, _⊕_}
+use Rattle.heights.proofs.Heights.Part.{Part, _⊕_, Same}
 use Rattle.heights.proofs.Heights.OneMore.{more-same, more-join}
 use Rattle.heights.proofs.Sides.Board.{Sides, join, SameSides}
 use Rattle.heights.proofs.Exchange.Condition.{Before, After, Redundant, Exchanged}
@@ -50,17 +50,22 @@ after-later H a b =
           (t .0, t .1, omega (arith, a s h k, a (t .0) (omega arith) (omega arith), b s h k, b (t .0) (omega arith) (omega arith)));
     }
 
+-- either way, where C and D agree with A and B past some slot up to x and y
+pub redundant-later : {n x y : ℕ} {A B C D : Part} (z : ℕ) → z ≤ x → z ≤ y → Redundant n x y A B → Same (suc n) A C
+    → ((s : ℕ) → suc n ≤ s → z < s → B .at s ≡ D .at s) → Redundant (suc n) x y C D
+redundant-later {n} {x} {y} {C = C} {D} z zx zy r k f =
+    ⊎-elim
+    {C = Redundant (suc n) x y C D}
+    (λ L. inl (before-later L (λ s h j. k .is s h) (λ s h j. f s h (omega arith))))
+    (λ H. inr (after-later H (λ s h j. k .is s h) (λ s h j. f s h (omega arith))))
+    r
+
 pub exchange-same : {n x y : ℕ} {P Q R S : Sides} → Exchanged n x y P Q → SameSides (suc n) P R → SameSides (suc n) Q S → Exchanged (suc n) x y R S
-exchange-same {n} {x} {y} {P} {Q} {R} {S} e k l =
+exchange-same {n} e k l =
     record {
       x-more = more-same (suc n) (omega arith) (e .x-more) (l false) (k false);
       y-more = more-same (suc n) (omega arith) (e .y-more) (k true) (l true);
-      either =
-          ⊎-elim
-          {C = Redundant (suc n) x y (R false) (S true)}
-          (λ L. inl (before-later L (λ s h j. k false .is s h) (λ s h j. l true .is s h)))
-          (λ H. inr (after-later H (λ s h j. k false .is s h) (λ s h j. l true .is s h)))
-          (e .either);
+      either = redundant-later 0 (omega arith) (omega arith) (e .either) (k false) (λ s h j. l true .is s h);
     }
 
 before-join : {n x y : ℕ} {A B : Part} (F G : Part) → Before n x y A B → Before n x y (A ⊕ F) (B ⊕ G)

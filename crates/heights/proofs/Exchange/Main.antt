@@ -1,6 +1,5 @@
 -- On one future, whoever is ahead takes no fewer 0-jobs in a good run, and an exchange costs at most one. Hence the main claim:
 -- no tight run takes more 0-jobs than a good run from the same board, and all good runs take equally many.
-use mathlib.Core.Path.{_≡_}
 use mathlib.Core.Bool.{true, false}
 use mathlib.Core.Logic.{⊎-elim}
 use mathlib.Core.List.{List, [], _∷_}
@@ -12,12 +11,12 @@ use Rattle.heights.proofs.Heights.OneMore.{more-le}
 use Rattle.heights.proofs.Heights.TightSlot.{tight-fall, tight-unique}
 use Rattle.heights.proofs.Sides.Board.{Sides, join, Slot, served, idle}
 use Rattle.heights.proofs.Sides.Tight.{chosen-le}
-use Rattle.heights.proofs.Sides.Ahead.{Ahead, ahead-refl, ahead-join, ahead-same, ahead-take}
+use Rattle.heights.proofs.Sides.Ahead.{Ahead, ahead-refl}
 use Rattle.heights.proofs.Sides.Run.{TightStep, GoodStep, stop, pass, serve, TightRun, GoodRun, good-run}
 use Rattle.heights.proofs.Exchange.Condition.{Exchanged, exchange-back}
 use Rattle.heights.proofs.Exchange.Later.{exchange-same, exchange-join}
 use Rattle.heights.proofs.Exchange.Fresh.{exchange-fresh}
-use Rattle.heights.proofs.Exchange.Dominance.{AheadNoLess, ExchangeOne, ahead-served}
+use Rattle.heights.proofs.Exchange.Dominance.{AheadNoLess, ExchangeOne, ahead-served, none-taken, both-taken}
 use Rattle.heights.proofs.Exchange.Served.{exchange-served}
 
 -- x has expired: P is ahead
@@ -30,36 +29,31 @@ expired {n} {x} {y} {P} {Q} E h = record { side = λ b. elim b [ false ↦ zeros
     ones : Reach n 0 (P true) (Q true)
     ones = record { to = λ s i. (s, omega arith, omega (arith, more-le (E .y-more) s i)) }
 
+-- the first slot of a future, from what is claimed for the slots after it
+module _ (fs : List (Slot Sides)) (F : Sides) (ih : AheadNoLess fs × ExchangeOne fs) where
+  idle-ahead : AheadNoLess (idle F ∷ fs)
+  idle-ahead n P Q j k a (pass R s g) (pass S t h) = none-taken fs F (ih .0) a s t g h
+
+  idle-exchange : ExchangeOne (idle F ∷ fs)
+  idle-exchange n x y P Q j k e (pass R s g) (pass S t h) = ih .1 (suc n) x y (join R F) (join S F) j k (exchange-join F (exchange-same e s t)) g h
+
+  served-ahead : AheadNoLess (served F ∷ fs)
+  served-ahead n P Q j k a (serve R d i p g e) (serve S c m q h f) = omega (arith, ahead-served fs F (ih .0) (ih .1) i m a p q g h)
+
+  in-date : (n x y : ℕ) (P Q : Sides) (j k : ℕ) → n ≤ x → Exchanged n x y P Q → GoodRun n P (served F ∷ fs) j → GoodRun n Q (served F ∷ fs) k → k ≤ suc j
+  in-date n x y P Q j k l E (serve R d i p g e) (serve S c m q h f) = omega (arith, exchange-served fs F (ih .0) (ih .1) i m E l p q g h)
+
+  served-exchange : ExchangeOne (served F ∷ fs)
+  served-exchange n x y P Q j k E g h =
+      ⊎-elim (λ (i : n ≤ x). in-date n x y P Q j k i E g h) (λ (i : x < n). omega (arith, served-ahead n P Q j k (expired E i) g h)) (cmp n x)
+
 both : (fs : List (Slot Sides)) → AheadNoLess fs × ExchangeOne fs
 both [] = (λ n P Q j k a g h. none g h, λ n x y P Q j k e g h. omega (arith, none g h))
   where
     none : {n j k : ℕ} {P Q : Sides} → GoodRun n P [] j → GoodRun n Q [] k → k ≤ j
     none stop stop = omega arith
-both (idle F ∷ fs) = go (both fs)
-  where
-    go : AheadNoLess fs × ExchangeOne fs → AheadNoLess (idle F ∷ fs) × ExchangeOne (idle F ∷ fs)
-    go ih = (ahead, exchange)
-      where
-        ahead : AheadNoLess (idle F ∷ fs)
-        ahead n P Q j k a (pass R s g) (pass S t h) = ih .0 (suc n) (join R F) (join S F) j k (ahead-join F (ahead-same a s t)) g h
-
-        exchange : ExchangeOne (idle F ∷ fs)
-        exchange n x y P Q j k e (pass R s g) (pass S t h) = ih .1 (suc n) x y (join R F) (join S F) j k (exchange-join F (exchange-same e s t)) g h
-both (served F ∷ fs) = go (both fs)
-  where
-    go : AheadNoLess fs × ExchangeOne fs → AheadNoLess (served F ∷ fs) × ExchangeOne (served F ∷ fs)
-    go ih = (ahead, exchange)
-      where
-        ahead : AheadNoLess (served F ∷ fs)
-        ahead n P Q j k a (serve R d i p g e) (serve S c m q h f) = omega (arith, ahead-served fs F (ih .0) (ih .1) i m a p q g h)
-
-        in-date : (n x y : ℕ) (P Q : Sides) (j k : ℕ) → n ≤ x → Exchanged n x y P Q → GoodRun n P (served F ∷ fs) j → GoodRun n Q (served F ∷ fs) k
-            → k ≤ suc j
-        in-date n x y P Q j k l E (serve R d i p g e) (serve S c m q h f) = omega (arith, exchange-served fs F (ih .0) (ih .1) i m E l p q g h)
-
-        exchange : ExchangeOne (served F ∷ fs)
-        exchange n x y P Q j k E g h =
-            ⊎-elim (λ (i : n ≤ x). in-date n x y P Q j k i E g h) (λ (i : x < n). omega (arith, ahead n P Q j k (expired E i) g h)) (cmp n x)
+both (idle F ∷ fs) = (idle-ahead fs F (both fs), idle-exchange fs F (both fs))
+both (served F ∷ fs) = (served-ahead fs F (both fs), served-exchange fs F (both fs))
 
 pub ahead-no-less : (fs : List (Slot Sides)) → AheadNoLess fs
 ahead-no-less fs = both fs .0
@@ -72,14 +66,14 @@ module _ (fs : List (Slot Sides)) (F : Sides) where
   main-served : {n d c : ℕ} {Q R S : Sides} (j k : ℕ) → TightStep n Q R d → GoodStep n Q S c → GoodRun (suc n) (join R F) fs j
       → GoodRun (suc n) (join S F) fs k
       → d + j ≤ c + k
-  main-served {n} {Q = Q} {R} {S} j k (TightStep.rest p s) (GoodStep.rest q t) gp gq =
-      omega (arith, ahead-no-less fs (suc n) (join S F) (join R F) k j (ahead-join F (ahead-same (ahead-refl n Q) t s)) gq gp)
+  main-served {n} {Q = Q} j k (TightStep.rest p s) (GoodStep.rest q t) gp gq =
+      omega (arith, none-taken fs F (ahead-no-less fs) (ahead-refl n Q) t s gq gp)
   main-served j k (TightStep.rest p s) (GoodStep.take b l C q) gp gq = absurd (omega (arith, tight-fall (C .tight)))
   main-served j k (TightStep.take b p) (GoodStep.rest q t) gp gq = absurd (omega (arith, tight-fall (p .tight)))
-  main-served {n} {Q = Q} {R} {S} j k (TightStep.take false p) (GoodStep.take false l C q) gp gq =
-      omega (arith, ahead-no-less fs (suc n) (join S F) (join R F) k j (ahead-join F (ahead-take false (ahead-refl n Q) q p)) gq gp)
-  main-served {n} {Q = Q} {R} {S} j k (TightStep.take true p) (GoodStep.take true l C q) gp gq =
-      omega (arith, ahead-no-less fs (suc n) (join S F) (join R F) k j (ahead-join F (ahead-take true (ahead-refl n Q) q p)) gq gp)
+  main-served {n} {Q = Q} j k (TightStep.take false p) (GoodStep.take false l C q) gp gq =
+      omega (arith, both-taken fs F (ahead-no-less fs) (ahead-refl n Q) false q p gq gp)
+  main-served {n} {Q = Q} j k (TightStep.take true p) (GoodStep.take true l C q) gp gq =
+      omega (arith, both-taken fs F (ahead-no-less fs) (ahead-refl n Q) true q p gq gp)
   main-served j k (TightStep.take false p) (GoodStep.take true l C q) gp gq =
       absurd (omega (arith, C .pick, fall-in l (p .out) (omega (arith, p .within, tight-unique (p .tight) (C .tight)))))
   main-served {n} {Q = Q} {R} {S} j k (TightStep.take true p) (GoodStep.take false l C q) gp gq =
@@ -93,16 +87,7 @@ pub tight-no-more : (fs : List (Slot Sides)) (n : ℕ) (S : Sides) (j k : ℕ) �
 tight-no-more [] n S j k stop stop = omega arith
 tight-no-more (idle F ∷ fs) n S j k (pass R s r) (pass T t g) =
     let h = good-run fs (suc n) (join R F) in
-    omega (
-      arith,
-      tight-no-more fs (suc n) (join R F) j (h .0) r (h .1),
-      ahead-no-less fs (suc n) (join T F) (join R F) k (h .0) (ahead-join F (ahead-same (ahead-refl n S) t s)) g (h .1),
-    )
+    omega (arith, tight-no-more fs (suc n) (join R F) j (h .0) r (h .1), none-taken fs F (ahead-no-less fs) (ahead-refl n S) t s g (h .1))
 tight-no-more (served F ∷ fs) n S j k (serve R d i p r e) (serve T c m q g f) =
     let h = good-run fs (suc n) (join R F) in
     omega (arith, tight-no-more fs (suc n) (join R F) i (h .0) r (h .1), main-served fs F (h .0) m p q (h .1) g)
-
--- all good runs take equally many
-pub good-equal : (fs : List (Slot Sides)) (n : ℕ) (S : Sides) (j k : ℕ) → GoodRun n S fs j → GoodRun n S fs k → j ≡ k
-good-equal fs n S j k g h =
-    omega (arith, ahead-no-less fs n S S j k (ahead-refl n S) g h, ahead-no-less fs n S S k j (ahead-refl n S) h g)

@@ -9,7 +9,7 @@ use Rattle.heights.proofs.Heights.TightSlot.{TightSlot}
 use Rattle.heights.proofs.Heights.Exists.{EarliestSlot}
 use Rattle.heights.proofs.Sides.Board.{Sides, whole}
 use Rattle.heights.proofs.Exchange.Condition.{Before, After, Redundant, Exchanged}
-use Rattle.heights.proofs.Exchange.BothZero.{dip}
+use Rattle.heights.proofs.Exchange.BothZero.{dip, lower}
 
 pub x-moves : {n l e x y : ℕ} {P Q R S : Sides} → Exchanged n x y P Q → n ≤ x → TightSlot n (whole P) l → EarliestSlot n (P false) e → e ≤ l → x < e
     → Out n e (P false) (R false) → Same (suc n) (P true) (R true)
@@ -28,25 +28,8 @@ x-moves {n} {l} {e} {x} {y} {P} {Q} {R} {S} E nx T F el xe p kp q kq =
           mark = e;
           mark-le = omega arith;
           zero-side = λ s h k j. absurd (omega arith);
-          over =
-              λ s h k f j.
-              let t = dip E nx T e el s h k j in
-              (t .0, t .1, omega (arith, p .rest .low s h j, p .rest .high (t .0) (omega arith) (t .1), kq .is s h, kq .is (t .0) (omega arith)));
-          under =
-              λ s h k j.
-              let t = dip E nx T e el s h k j in (
-                t .0,
-                t .1,
-                omega (
-                  arith,
-                  p .rest .low e (omega arith) (omega arith),
-                  F .same e (F .date) (omega arith),
-                  F .same s (omega arith) j,
-                  p .rest .high (t .0) (omega arith) (t .1),
-                  kq .is s h,
-                  kq .is (t .0) (omega arith),
-                ),
-              );
+          over = λ s h k f j. let t = lower e F p kq (omega arith) s h j (dip E nx T e el s h k j) in (t .0, t .1, t .2);
+          under = λ s h k j. let t = lower e F p kq (omega arith) s h j (dip E nx T e el s h k j) in (t .0, t .1, t .3);
         }
 
     hi : e ≤ y → After n x y (P false) (Q true) → After (suc n) e y (R false) (S true)

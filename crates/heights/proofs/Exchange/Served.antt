@@ -12,16 +12,16 @@ use Rattle.heights.proofs.Heights.Exists.{EarliestSlot, earliest, earli
 use Rattle.heights.proofs.Heights.Removal.{removal}
 use Rattle.heights.proofs.Sides.Board.{Sides, join, pair, out-side, Slot}
 use Rattle.heights.proofs.Sides.Tight.{Chosen, SideTake, chosen-le, chosen-take, chosen-within}
-use Rattle.heights.proofs.Sides.Ahead.{Ahead, ahead-refl, ahead-join, ahead-take}
+use Rattle.heights.proofs.Sides.Ahead.{Ahead, ahead-refl, ahead-join}
 use Rattle.heights.proofs.Sides.Run.{GoodStep, GoodRun, good-run}
 use Rattle.heights.proofs.Exchange.Condition.{Exchanged, exchange-forth, exchange-back}
 use Rattle.heights.proofs.Exchange.Later.{exchange-join}
-use Rattle.heights.proofs.Exchange.Earliest.{earliest-e, earliest-x, earliest-m}
+use Rattle.heights.proofs.Exchange.Earliest.{earliest-more, earliest-one}
 use Rattle.heights.proofs.Exchange.BothZero.{both-take}
 use Rattle.heights.proofs.Exchange.Moved.{x-moves}
 use Rattle.heights.proofs.Exchange.ZeroOne.{ones-ahead, zeros-ahead-x, zeros-ahead-e}
 use Rattle.heights.proofs.Exchange.BothOne.{y-beyond, none-either, both-take-one}
-use Rattle.heights.proofs.Exchange.Dominance.{AheadNoLess, ExchangeOne}
+use Rattle.heights.proofs.Exchange.Dominance.{AheadNoLess, ExchangeOne, both-taken}
 
 -- the earliest job of a side serves as the job taken
 earliest-take : {n e : ℕ} {Q S T : Sides} (b : Bool) → SideTake n Q S b → EarliestSlot n (Q b) e → Out n e (Q b) (T b)
@@ -34,8 +34,7 @@ module _ (fs : List (Slot Sides)) (F : Sides) (ahead : AheadNoLess fs) (exchange
   -- a good run takes some job tight on its side: another such job serves as well
   as-well : {n l : ℕ} {Q S T : Sides} (b : Bool) (j k : ℕ) → Chosen n l Q b → SideTake n Q S b → SideTake n Q T b → GoodRun (suc n) (join S F) fs j
       → GoodRun (suc n) (join T F) fs k → j ≤ k
-  as-well {n} {l} {Q} {S} {T} b j k C p q g h =
-      ahead (suc n) (join T F) (join S F) k j (ahead-join F (ahead-take b (ahead-refl n Q) q (chosen-take b C p))) h g
+  as-well {n} {Q = Q} b j k C p q g h = both-taken fs F ahead (ahead-refl n Q) b q (chosen-take b C p) h g
 
   -- both take a 0-job
   both-zero : {n x y l m : ℕ} {P Q R S : Sides} (j k : ℕ) → Exchanged n x y P Q → n ≤ x → Chosen n l P false → SideTake n P R false
@@ -52,24 +51,22 @@ module _ (fs : List (Slot Sides)) (F : Sides) (ahead : AheadNoLess fs) (exchange
       let p' : SideTake n P R' false = earliest-take false p (f .1) (a .1) kp in
       let g = good-run fs (suc n) (join R' F) in
       let gj : g .0 ≤ j = as-well false (g .0) j C p' p (g .1) gp in
-      let instead : (i : ℕ) (h : EarliestSlot n (Q false) i) → (B : Part) × Out n i (Q false) B × SideTake n Q (pair B (Q true)) false =
-      λ i h. let b = take-out n i (Q false) (h .date) (h .present) in (b .0, b .1, earliest-take false q h (b .1) kq)
+      -- Q takes the earliest job i instead, and the exchange goes on with z
+      let instead : (i : ℕ) → EarliestSlot n (Q false) i → (z : ℕ) → ((B : Part) → Out n i (Q false) B → Exchanged (suc n) z y R' (pair B (Q true))) → k ≤ suc j =
+      λ i h z f.
+      let b = take-out n i (Q false) (h .date) (h .present) in
+      let S' = pair (b .0) (Q true) in
+      let r = good-run fs (suc n) (join S' F) in
+      omega (
+        arith,
+        as-well false k (r .0) D q (earliest-take {T = S'} false q h (b .1) kq) gq (r .1),
+        exchange (suc n) z y (join R' F) (join S' F) (g .0) (r .0) (exchange-join F (f (b .0) (b .1))) (g .1) (r .1),
+      )
       in
       ⊎-elim
-      (λ (i : e ≤ x).
-      let b = instead e (earliest-e E (f .1) i) in
-      let S' = pair (b .0) (Q true) in
-      let h = good-run fs (suc n) (join S' F) in
-      let kh : k ≤ h .0 = as-well false k (h .0) D q (b .2) gq (h .1) in
-      let E' : Exchanged (suc n) x y R' S' = both-take E nx (C .tight) (f .1) el i (a .1) kp (b .1) kq in
-      omega (arith, exchange (suc n) x y (join R' F) (join S' F) (g .0) (h .0) (exchange-join F E') (g .1) (h .1)))
+      (λ (i : e ≤ x). instead e (earliest-more (E .x-more) (f .1) i) x (λ B o. both-take E nx (C .tight) (f .1) el i (a .1) kp o kq))
       (λ (i : x < e).
-      let b = instead x (earliest-x E nx (omega (arith, f .1 .same x nx (omega arith)))) in
-      let S' = pair (b .0) (Q true) in
-      let h = good-run fs (suc n) (join S' F) in
-      let kh : k ≤ h .0 = as-well false k (h .0) D q (b .2) gq (h .1) in
-      let E' : Exchanged (suc n) e y R' S' = x-moves E nx (C .tight) (f .1) el i (a .1) kp (b .1) kq in
-      omega (arith, exchange (suc n) e y (join R' F) (join S' F) (g .0) (h .0) (exchange-join F E') (g .1) (h .1)))
+      instead x (earliest-one (E .x-more) nx (omega (arith, f .1 .same x nx (omega arith)))) e (λ B o. x-moves E nx (C .tight) (f .1) el i (a .1) kp o kq))
       (cmp e x)
 
   -- P takes a 1-job, Q a 0-job: P is ahead
@@ -102,11 +99,11 @@ module _ (fs : List (Slot Sides)) (F : Sides) (ahead : AheadNoLess fs) (exchange
           omega (arith, ahead (suc n) (join R F) (join S' F) j (h .0) (ahead-join F A) gp (h .1))
 
       pick : (P false .at n ≤ P false .at x) ⊎ (P false .at x < P false .at n) → k ≤ j
-      pick (inl h) = instead x (earliest-x E nx h) (λ B b em. zeros-ahead-x E (p .kept) b)
+      pick (inl h) = instead x (earliest-one (E .x-more) nx h) (λ B b em. zeros-ahead-x E (p .kept) b)
       pick (inr h) =
           let f = earliest n (P false) (omega arith) in
           let ex : f .0 ≤ x = omega (arith, earliest-le x (f .1) (omega (arith, P false .anti x (suc x) (omega arith)))) in
-          instead (f .0) (earliest-e E (f .1) ex)
+          instead (f .0) (earliest-more (E .x-more) (f .1) ex)
           (λ B b em. zeros-ahead-e R (pair B (Q true)) E (C .tight) (C .pick) (p .out) pl (p .kept) (D .tight) (f .1) ex b em kq)
 
   -- both take a 1-job
@@ -121,7 +118,7 @@ module _ (fs : List (Slot Sides)) (F : Sides) (ahead : AheadNoLess fs) (exchange
       let S' = pair (Q false) (b .0) in
       let q' : SideTake n Q S' true = earliest-take true q (f .1) (b .1) kq in
       let em : e ≤ m = omega (arith, earliest-le (q .slot) (f .1) (tight-fall (q .tight)), chosen-within true D (q .tight)) in
-      let pf = earliest-m E (f .1) (omega (arith, em, y-beyond E nx (D .tight) (D .pick))) in
+      let pf = earliest-more (E .y-more) (f .1) (omega (arith, em, y-beyond E nx (D .tight) (D .pick))) in
       let a = take-out n e (P true) (pf .date) (pf .present) in
       let R' = pair (P false) (a .0) in
       let p' : SideTake n P R' true = earliest-take {T = R'} true p pf (a .1) kp in

@@ -2,7 +2,7 @@
 -- Two parts may agree from a slot on, and a job may leave a part.
 use mathlib.Core.Path.{_≡_, refl, sym}
 use mathlib.Core.Logic.{⊎-elim}
-use Prim.Native.Nat.{ℕ, suc, _+_, _≤_, _<_}
+use Prim.Native.Nat.{ℕ, suc, _+_, _-_, _≤_, _<_, min}
 use native.Mathlib.Omega.{arith}
 pub use Rattle.lists.proofs.Tests.{cmp}
 
@@ -41,6 +41,13 @@ pub record OneMore (n x : ℕ) (A C : Part) : Type 0 where
   pub low : (s : ℕ) → n ≤ s → s ≤ x → A .at s ≡ suc (C .at s)
   pub high : (s : ℕ) → n ≤ s → x < s → A .at s ≡ C .at s
 
+-- the same as a number
+pub more-at : {n x : ℕ} {A C : Part} → OneMore n x A C → (s : ℕ) → n ≤ s → A .at s ≡ C .at s + min 1 (suc x - s)
+more-at {n} {x} m s h = ⊎-elim (λ (k : s ≤ x). omega (arith, m .low s h k)) (λ (k : x < s). omega (arith, m .high s h k)) (cmp s x)
+
+pub at-more : {n x : ℕ} {A C : Part} → ((s : ℕ) → n ≤ s → A .at s ≡ C .at s + min 1 (suc x - s)) → OneMore n x A C
+at-more f = record { low = λ s h j. omega (arith, f s h); high = λ s h j. omega (arith, f s h) }
+
 -- in slot n a job with last slot p, in date, leaves A; B is what is left, read from n + 1 on
 pub record Out (n p : ℕ) (A B : Part) : Type 0 where
   pub date : n ≤ p
@@ -72,11 +79,11 @@ fall-in {n} {p} {A} l a h = omega (arith, a .present, a .date, A .anti n p (a .d
 
 -- what is left is no more
 pub out-less : {n p : ℕ} {A B : Part} → Out n p A B → (s : ℕ) → suc n ≤ s → B .at s ≤ A .at s
-out-less {n} {p} o s h = ⊎-elim (λ (k : s ≤ p). omega (arith, o .rest .low s h k)) (λ (k : p < s). omega (arith, o .rest .high s h k)) (cmp s p)
+out-less o s h = omega (arith, more-at (o .rest) s h)
 
 -- and at most one less
 pub out-one : {n p : ℕ} {A B : Part} → Out n p A B → (s : ℕ) → suc n ≤ s → A .at s ≤ suc (B .at s)
-out-one {n} {p} o s h = ⊎-elim (λ (k : s ≤ p). omega (arith, o .rest .low s h k)) (λ (k : p < s). omega (arith, o .rest .high s h k)) (cmp s p)
+out-one o s h = omega (arith, more-at (o .rest) s h)
 
 -- what is left in the next slot, with the job that left, is no more than what was there
 pub out-next : {n p : ℕ} {A B : Part} → Out n p A B → B .at (suc n) < A .at n
@@ -92,20 +99,7 @@ out-same {n} {p} e o =
     record {
       date = o .date;
       present = omega (arith, o .present, e .is p (o .date), e .is (suc p) (omega (arith, o .date)));
-      rest =
-          record {
-            low = λ s h j. omega (arith, e .is s (omega arith), o .rest .low s h j);
-            high = λ s h j. omega (arith, e .is s (omega arith), o .rest .high s h j);
-          };
-    }
-
--- and of what is left
-pub out-left : {n p : ℕ} {A B C : Part} → Same (suc n) B C → Out n p A B → Out n p A C
-out-left e o =
-    record {
-      date = o .date;
-      present = o .present;
-      rest = record { low = λ s h j. omega (arith, e .is s h, o .rest .low s h j); high = λ s h j. omega (arith, e .is s h, o .rest .high s h j) };
+      rest = at-more (λ s h. omega (arith, e .is s (omega arith), more-at (o .rest) s h));
     }
 
 -- what is left tells which job left

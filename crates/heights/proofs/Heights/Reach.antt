@@ -24,9 +24,6 @@ reach-trans r q =
 pub reach-later : {n d : ℕ} {A C : Part} (m : ℕ) → n ≤ m → Reach n d A C → Reach m d A C
 reach-later m l r = record { to = λ s h. r .to s (omega arith) }
 
-pub reach-lead : {n d : ℕ} {A C : Part} (e : ℕ) → d ≤ e → Reach n d A C → Reach n e A C
-reach-lead e l r = record { to = λ s h. let t = r .to s h in (t .0, t .1, omega arith) }
-
 pub reach-join : {n d : ℕ} {A C : Part} (F : Part) → Reach n d A C → Reach n d (A ⊕ F) (C ⊕ F)
 reach-join F r = record { to = λ s h. let t = r .to s h in (t .0, t .1, omega (arith, F .anti s (t .0) (t .1))) }
 

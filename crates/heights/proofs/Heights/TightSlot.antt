@@ -47,18 +47,6 @@ excess-tight {n} {l} {A} T =
       upto = λ s d h f. ⊎-elim (λ e. absurd (omega arith)) (λ m. omega (arith, T .first (m .0) (m .1) (m .3) (omega arith))) (below A n s);
     }
 
-pub tight-excess : {n l : ℕ} {A : Part} → TightSlot n A l → SmallestExcess n A l
-tight-excess {n} {l} {A} T =
-    record {
-      date = T .date;
-      present = T .present;
-      least = λ m d j. ⊎-elim (λ (h : l ≤ m). omega (arith, T .past (suc m) (omega arith))) (λ (h : m < l). omega (arith, fst m d j h)) (cmp l m);
-      first = fst;
-    }
-  where
-    fst : (m : ℕ) → n ≤ m → A .at (suc m) < A .at m → m < l → l + A .at (suc l) < m + A .at (suc m)
-    fst m d j h = omega (arith, T .upto (suc m) (omega arith) (omega arith) (omega (arith, A .anti n m d)))
-
 -- there is only one
 pub tight-unique : {n l m : ℕ} {A : Part} → TightSlot n A l → TightSlot n A m → l ≡ m
 tight-unique {n} {l} {m} {A} T U = not-apart l m (no T U) (no U T)

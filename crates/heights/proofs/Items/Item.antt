@@ -1,58 +1,34 @@
 -- Jobs as items, each with a last slot and a grade, and lists of them: how many have last slot at least s, as a part; one item less; what holds of each.
-use mathlib.Core.Path.{_≡_, refl}
+use mathlib.Core.Path.{_≡_}
 use mathlib.Core.Bool.{Bool}
 use mathlib.Core.List.{List, [], _∷_, _++_}
-use Prim.Native.Nat.{ℕ, suc, _+_, _-_, _≤_, _<_, min}
+use Prim.Native.Nat.{ℕ, suc, _+_, _-_, _≤_, min}
 use native.Mathlib.Omega.{arith}
 use lib.Dec.{leb}
-use lib.ListN.{length}
 use Rattle.lists.proofs.Less.{Less, here, there}
-use Rattle.heights.proofs.Heights.Part.{Part, _⊕_, Same, Out}
-use Rattle.lists.specs.Select.{one-if}
-use Rattle.lists.proofs.Counting.{one-leb}
+use Rattle.heights.proofs.Heights.Part.{Part, _⊕_, Same, at-more, Out}
+use Rattle.lists.proofs.Counting.{count-append as how-many-append}
+use Rattle.heights.proofs.Heights.Counted.{from-on, from-on-nil, from-on-cons, part-of}
 
 pub record Item : Type 0 where
   pub last : ℕ
   pub grade : List Bool
 
--- its grade has d bits
-abbrev pub Bits : ℕ → Item → Type 0
-Bits d p = length (p .grade) ≡ d
-
 -- how many have last slot at least s
-unfoldable pub count : List Item → ℕ → ℕ
-count [] s = 0
-count (p ∷ A) s = one-if (leb s (p .last)) + count A s
+abbrev pub count : List Item → ℕ → ℕ
+count A s = from-on (λ (p : Item). p .last) A s
 
 pub count-nil : (s : ℕ) → count [] s ≡ 0
-unfolding count
-count-nil s = refl
+count-nil s = from-on-nil (λ (p : Item). p .last) s
 
 pub count-cons : (p : Item) (A : List Item) (s : ℕ) → count (p ∷ A) s ≡ min 1 (suc (p .last) - s) + count A s
-unfolding count
-count-cons p A s = omega (arith, one-leb s (p .last))
-
-pub count-anti : (A : List Item) (s t : ℕ) → s ≤ t → count A t ≤ count A s
-count-anti [] s t h = omega (arith, count-nil s, count-nil t)
-count-anti (p ∷ A) s t h = omega (arith, count-cons p A s, count-cons p A t, count-anti A s t h)
+count-cons p A s = from-on-cons (λ (p : Item). p .last) p A s
 
 pub count-append : (A B : List Item) (s : ℕ) → count (A ++ B) s ≡ count A s + count B s
-count-append [] B s = omega (arith, count-nil s)
-count-append (p ∷ A) B s = omega (arith, count-cons p (A ++ B) s, count-cons p A s, count-append A B s)
-
-pub end-of : List Item → ℕ
-end-of [] = 0
-end-of (p ∷ A) = suc (p .last) + end-of A
-
-pub count-end : (A : List Item) → count A (end-of A) ≡ 0
-unfolding end-of
-count-end [] = count-nil 0
-count-end (p ∷ A) =
-    let t = suc (p .last) + end-of A in
-    omega (arith, count-cons p A t, count-anti A (end-of A) t (omega arith), count-end A)
+count-append A B s = how-many-append (λ (p : Item). leb s (p .last)) A B
 
 abbrev pub part : List Item → Part
-part A = record { at = count A; anti = count-anti A; end = end-of A; none = count-end A }
+part A = part-of (λ (p : Item). p .last) A
 
 abbrev pub parts : List (List Item) → List Part
 parts [] = []
@@ -61,27 +37,16 @@ parts (F ∷ fs) = part F ∷ parts fs
 pub part-append : (n : ℕ) (A B : List Item) → Same n (part (A ++ B)) (part A ⊕ part B)
 part-append n A B = record { is = λ s h. count-append A B s }
 
-pub less-low : {p : Item} {A B : List Item} → Less p A B → (s : ℕ) → s ≤ p .last → count A s ≡ suc (count B s)
-less-low {p} (here {L = A}) s h = omega (arith, count-cons p A s)
-less-low (there {r = r} {L = A} {L' = B} l) s h = omega (arith, count-cons r A s, count-cons r B s, less-low l s h)
-
-pub less-high : {p : Item} {A B : List Item} → Less p A B → (s : ℕ) → p .last < s → count A s ≡ count B s
-less-high {p} (here {L = A}) s h = omega (arith, count-cons p A s)
-less-high (there {r = r} {L = A} {L' = B} l) s h = omega (arith, count-cons r A s, count-cons r B s, less-high l s h)
+-- one item less
+less-at : {p : Item} {A B : List Item} → Less p A B → (s : ℕ) → count A s ≡ count B s + min 1 (suc (p .last) - s)
+less-at {p} (here {L = A}) s = omega (arith, count-cons p A s)
+less-at (there {r = r} {L = A} {L' = B} l) s = omega (arith, count-cons r A s, count-cons r B s, less-at l s)
 
 -- an item in date leaves
 pub part-out : {n : ℕ} {p : Item} {A B : List Item} → Less p A B → n ≤ p .last → Out n (p .last) (part A) (part B)
 part-out {n} {p} {A} {B} l h =
     let q = p .last in
-    record {
-      date = h;
-      present = omega (arith, less-low l q (omega arith), less-high l (suc q) (omega arith), count-anti B q (suc q) (omega arith));
-      rest = record { low = λ s i j. less-low l s j; high = λ s i j. less-high l s j };
-    }
-
--- an item out of date does not matter
-pub part-expired : (n : ℕ) (p : Item) (A : List Item) → p .last < n → Same n (part (p ∷ A)) (part A)
-part-expired n p A h = record { is = λ s i. omega (arith, count-cons p A s) }
+    record { date = h; present = omega (arith, less-at l q, less-at l (suc q), part B .anti q (suc q) (omega arith)); rest = at-more (λ s i. less-at l s) }
 
 unfoldable pub Each : (Item → Type 0) → List Item → Type 0
 Each P [] = Unit {0}
@@ -91,8 +56,3 @@ pub each-append : (P : Item → Type 0) (A B : List Item) → Each P A → Each 
 unfolding Each
 each-append P [] B a b = b
 each-append P (p ∷ A) B a b = (a .0, each-append P A B (a .1) b)
-
-pub each-less : (P : Item → Type 0) {p : Item} {A B : List Item} → Each P A → Less p A B → P p
-unfolding Each
-each-less P e here = e .0
-each-less P e (there l) = each-less P (e .1) l

@@ -2,10 +2,11 @@
 use mathlib.Core.Path.{_≡_, refl, sym, ap, _∙_, subst}
 use mathlib.Core.Bool.{Bool, true, false, not}
 use mathlib.Core.List.{List, [], _∷_, _++_}
-use Prim.Native.Nat.{ℕ, _+_}
+use Prim.Native.Nat.{ℕ, _+_, _<_}
 use native.Mathlib.Omega.{arith}
+use lib.ListN.{length}
 use Rattle.lists.proofs.Less.{Less, here, there}
-use Rattle.heights.proofs.Items.Item.{Item, count, count-nil, count-cons}
+use Rattle.heights.proofs.Items.Item.{Item, count, count-nil, count-cons, Each}
 
 unfoldable pub next-bit : List Bool → Bool
 next-bit [] = false
@@ -98,3 +99,22 @@ pub side-kept : {p : Item} {A B : List Item} → Less p A B → side (not (next-
 unfolding side
 side-kept {p} (here {L = A}) = let b = next-bit (p .grade) in put-other b (after p) (side (not b) A)
 side-kept {p} (there {r = r} {L = A} {L' = B} l) = ap (put (not (next-bit (p .grade))) (next-bit (r .grade)) (after r)) (side-kept l)
+
+-- what holds of each item holds, in the form it has there, of each on a side
+pub each-side : (P Q : Item → Type 0) (b : Bool) → ((p : Item) → next-bit (p .grade) ≡ b → P p → Q (after p)) → (A : List Item) → Each P A
+    → Each Q (side b A)
+unfolding Each side
+each-side P Q b f [] e = tt
+each-side P Q b f (p ∷ A) e = go b (next-bit (p .grade)) (λ g. f p g (e .0)) (each-side P Q b f A (e .1))
+  where
+    go : (b c : Bool) → (c ≡ b → Q (after p)) → Each Q (side b A) → Each Q (put b c (after p) (side b A))
+    go true true g i = unfold put in (g refl, i)
+    go true false g i = unfold put in i
+    go false true g i = unfold put in i
+    go false false g i = unfold put in (g refl, i)
+
+-- a grade with a bit is that bit and the others
+pub split-bits : (w : List Bool) → 0 < length w → w ≡ next-bit w ∷ more-bits w
+unfolding next-bit more-bits
+split-bits [] h = absurd (omega arith)
+split-bits (b ∷ w) h = refl

@@ -3,14 +3,14 @@
 use mathlib.Core.Path.{_≡_, refl, sym, ap, subst}
 use mathlib.Core.Bool.{Bool, true, false, not}
 use mathlib.Core.List.{List, [], _∷_, _++_}
-use Prim.Native.Nat.{ℕ, zero, suc, _+_, _≤_, _<_}
+use Prim.Native.Nat.{ℕ, zero, suc, _+_, _≤_}
 use native.Mathlib.Omega.{arith}
 use lib.ListN.{length}
 use Rattle.lists.proofs.Less.{Less}
 use Rattle.heights.proofs.Sides.Board.{Slot, served}
 use Rattle.heights.proofs.Trees.Tree.{Tree, total, join-tree, SameTree, OutTree, same-tree-refl, total-join}
-use Rattle.heights.proofs.Items.Item.{Item, count, count-cons, count-append, part, part-out, part-expired}
-use Rattle.heights.proofs.Items.Side.{next-bit, more-bits, after, put, side, side-append, side-sum, side-less, side-kept}
+use Rattle.heights.proofs.Items.Item.{Item, count, count-append, part, part-out}
+use Rattle.heights.proofs.Items.Side.{next-bit, more-bits, after, side, side-append, side-sum, side-less, side-kept}
 
 unfoldable pub tree : (d : ℕ) → List Item → Tree d
 tree zero A = part A
@@ -51,33 +51,6 @@ out-path (suc d) n p A B (b ∷ w) e l h k =
 pub tree-out : (d n : ℕ) {p : Item} {A B : List Item} → Less p A B → n ≤ p .last → length (p .grade) ≡ d
     → OutTree d n (p .last) (tree d A) (tree d B) (p .grade)
 tree-out d n {p} {A} {B} l h k = out-path d n p A B (p .grade) refl l h k
-
--- an item out of date does not matter
-pub tree-expired : (d n : ℕ) (p : Item) (A : List Item) → p .last < n → SameTree d n (tree d (p ∷ A)) (tree d A)
-unfolding tree SameTree side
-tree-expired zero n p A h = part-expired n p A h
-tree-expired (suc d) n p A h = λ b. go b (next-bit (p .grade)) (tree-expired d n (after p) (side b A) h)
-  where
-    go : (b c : Bool) → SameTree d n (tree d (after p ∷ side b A)) (tree d (side b A))
-        → SameTree d n (tree d (put b c (after p) (side b A))) (tree d (side b A))
-    go true true e = unfold put in e
-    go true false e = unfold put in same-tree-refl d n (tree d (side true A))
-    go false true e = unfold put in same-tree-refl d n (tree d (side false A))
-    go false false e = unfold put in e
-
--- an item more on both
-pub tree-cons : (d n : ℕ) (p : Item) (A B : List Item) → SameTree d n (tree d A) (tree d B) → SameTree d n (tree d (p ∷ A)) (tree d (p ∷ B))
-unfolding tree SameTree side
-tree-cons zero n p A B e = record { is = λ s h. omega (arith, e .is s h, count-cons p A s, count-cons p B s) }
-tree-cons (suc d) n p A B e = λ b. go b (next-bit (p .grade)) (e b) (tree-cons d n (after p) (side b A) (side b B) (e b))
-  where
-    go : (b c : Bool) → SameTree d n (tree d (side b A)) (tree d (side b B))
-        → SameTree d n (tree d (after p ∷ side b A)) (tree d (after p ∷ side b B))
-        → SameTree d n (tree d (put b c (after p) (side b A))) (tree d (put b c (after p) (side b B)))
-    go true true e f = unfold put in f
-    go true false e f = unfold put in e
-    go false true e f = unfold put in e
-    go false false e f = unfold put in f
 
 -- the future that lists of items make: each slot is served
 unfoldable pub slots : (d : ℕ) → List (List Item) → List (Slot (Tree d))

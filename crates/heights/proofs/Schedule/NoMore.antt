@@ -1,11 +1,10 @@
 -- No schedule takes more jobs than a tight run: not along the whole future, and not along any beginning of it.
-use mathlib.Core.Path.{_≡_, ap}
+use mathlib.Core.Path.{_≡_}
 use mathlib.Core.Logic.{⊎-elim}
 use mathlib.Core.List.{List}
 use Prim.Native.Nat.{ℕ, zero, suc, pred, _+_, _≤_, _<_}
 use native.Mathlib.Omega.{arith}
-use lib.ListN.{length, take}
-use lib.Seq.{take-all}
+use lib.ListN.{take}
 use Rattle.heights.proofs.Heights.Part.{Part, Same, Out, cmp, out-less, out-one}
 use Rattle.heights.proofs.Heights.Reach.{Reach, reach-refl, reach-join, reach-same}
 use Rattle.heights.proofs.Heights.Removal.{removal, less-past}
@@ -52,8 +51,3 @@ no-schedule-more-from d (suc i) r (next {F = F} {ks = js} T a x p) (next {ks = k
 pub no-schedule-more : {n : ℕ} {S : Part} {fs : List Part} {js ks : List ℕ} → TightRun n S fs js → Schedule n S fs ks → (i : ℕ)
     → sum (take i ks) ≤ sum (take i js)
 no-schedule-more {n} {S} p q i = omega (arith, no-schedule-more-from 0 i (reach-refl n S) p q)
-
-pub no-schedule-more-all : {n : ℕ} {S : Part} {fs : List Part} {js ks : List ℕ} → TightRun n S fs js → Schedule n S fs ks → sum ks ≤ sum js
-no-schedule-more-all {js = js} {ks} p q =
-    let i = length js + length ks in
-    omega (arith, no-schedule-more p q i, ap sum (take-all i js (omega arith)), ap sum (take-all i ks (omega arith)))

@@ -33,28 +33,20 @@ abbrev pub sum : List ℕ → ℕ
 sum [] = 0
 sum (k ∷ ks) = k + sum ks
 
--- only the counts from n on matter
-tight-step-same : {n k : ℕ} {R S T : Part} → Same n R S → TightStep n S T k → TightStep n R T k
-tight-step-same {n} e (rest z k) = rest (omega (arith, e .is n (omega arith))) (same-trans (same-later (suc n) (omega arith) e) k)
-tight-step-same e (take l p T o h) = take l p (tight-same e T) (out-same e o) h
+-- only the counts from n on matter to a step
+abbrev pub StepSame : (ℕ → Part → Part → ℕ → Type 0) → Type 0
+StepSame Step = (n k : ℕ) (R S T : Part) → Same n R S → Step n S T k → Step n R T k
 
-any-step-same : {n k : ℕ} {R S T : Part} → Same n R S → AnyStep n S T k → AnyStep n R T k
-any-step-same {n} e (rest k) = rest (same-trans (same-later (suc n) (omega arith) e) k)
-any-step-same e (take p o) = take p (out-same e o)
+pub tight-step-same : StepSame TightStep
+tight-step-same n k R S T e (rest z s) = rest (omega (arith, e .is n (omega arith))) (same-trans (same-later (suc n) (omega arith) e) s)
+tight-step-same n k R S T e (take l p U o h) = take l p (tight-same e U) (out-same e o) h
 
-pub tight-run-same : {n : ℕ} {R S : Part} {fs : List Part} {ks : List ℕ} → Same n R S → TightRun n S fs ks → TightRun n R fs ks
-tight-run-same e stop = stop
-tight-run-same e (next T k s r) = next T k (tight-step-same e s) r
+pub any-step-same : StepSame AnyStep
+any-step-same n k R S T e (rest s) = rest (same-trans (same-later (suc n) (omega arith) e) s)
+any-step-same n k R S T e (take p o) = take p (out-same e o)
 
-pub schedule-same : {n : ℕ} {R S : Part} {fs : List Part} {ks : List ℕ} → Same n R S → Schedule n S fs ks → Schedule n R fs ks
-schedule-same e stop = stop
-schedule-same e (next T k s r) = next T k (any-step-same e s) r
-
--- a tight run is a schedule
-pub tight-schedule : {n : ℕ} {S : Part} {fs : List Part} {ks : List ℕ} → TightRun n S fs ks → Schedule n S fs ks
-tight-schedule stop = stop
-tight-schedule (next T k s r) = next T k (step s) (tight-schedule r)
-  where
-    step : {n k : ℕ} {S T : Part} → TightStep n S T k → AnyStep n S T k
-    step (rest z k) = rest k
-    step (take l p U o h) = take p o
+-- nor to a run
+pub along-same : {Step : ℕ → Part → Part → ℕ → Type 0} {n : ℕ} {R S : Part} {fs : List Part} {ks : List ℕ} → StepSame Step → Same n R S → Along Step n S fs ks
+    → Along Step n R fs ks
+along-same f e stop = stop
+along-same {n = n} {R} {S} f e (next T k s r) = next T k (f n k R S T e s) r

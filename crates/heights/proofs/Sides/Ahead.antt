@@ -1,15 +1,16 @@
 -- P is ahead of Q: it reaches Q on each side, and Q reaches it as a whole. Then P has a tight job wherever Q has, side by side,
 -- and it stays ahead when jobs arrive, when time passes, and when a job tight on its side leaves P and a tight job of that side leaves Q.
+use mathlib.Core.Path.{_≡_, refl}
 use mathlib.Core.Bool.{Bool, true, false, not}
 use Prim.Native.Nat.{ℕ, suc, _<_}
 use native.Mathlib.Omega.{arith}
 use Rattle.heights.proofs.Heights.Part.{Part, _⊕_, same-refl, fall-in, not-above}
-use Rattle.heights.proofs.Heights.Reach.{Reach, reach-refl, reach-trans, reach-later, reach-join, reach-sum, reach-same, reach-none, reach-swap}
+use Rattle.heights.proofs.Heights.Reach.{Reach, reach-refl, reach-trans, reach-later, reach-join, reach-sum, reach-same, reach-none, reach-swap, Alike, alike-refl, alike-sym, alike-sum}
 use Rattle.heights.proofs.Heights.TightSlot.{TightSlot, tight-swap}
 use Rattle.heights.proofs.Heights.Exists.{tight-slot, take-out}
 use Rattle.heights.proofs.Heights.Removal.{removal, converse}
 use Rattle.heights.proofs.Sides.Board.{Sides, whole, join, pair, SameSides, whole-same, out-side, each-bit}
-use Rattle.heights.proofs.Sides.Tight.{inner-tight, TightTake, SideTake}
+use Rattle.heights.proofs.Sides.Tight.{inner-tight, TightTake, SideTake, Chosen}
 
 pub record Ahead (n : ℕ) (P Q : Sides) : Type 0 where
   pub side : (b : Bool) → Reach n 0 (P b) (Q b)
@@ -69,3 +70,17 @@ ahead-take {n} {P} {Q} {R} {S} b a p q =
           (reach-same (a .side (not b)) (p .kept) (q .kept));
       back = removal (a .back) (q .tight) (out-side b Q S (q .out) (q .kept)) (q .within) (out-side b P R (p .out) (p .kept));
     }
+
+-- boards whose sides are alike: the same side is chosen
+alike-ahead : {n : ℕ} {P Q : Sides} → ((b : Bool) → Alike n (P b) (Q b)) → Ahead n P Q
+alike-ahead a = record { side = λ b. a b .to; back = alike-sum (a false) (a true) .fro }
+
+pub same-bit : {n l m : ℕ} {P Q : Sides} (b c : Bool) → ((x : Bool) → Alike n (P x) (Q x)) → Chosen n l P b → Chosen n m Q c → b ≡ c
+same-bit false false a x y = refl
+same-bit true true a x y = refl
+same-bit false true a x y = absurd (omega (arith, y .pick, same-choice false (alike-ahead (λ b. alike-sym (a b))) (y .tight) (x .tight) (x .pick)))
+same-bit true false a x y = absurd (omega (arith, x .pick, same-choice false (alike-ahead a) (x .tight) (y .tight) (y .pick)))
+
+-- so only one side of a board is
+pub chosen-bit : {n l m : ℕ} {S : Sides} (b c : Bool) → Chosen n l S b → Chosen n m S c → b ≡ c
+chosen-bit {n} {S = S} b c x y = same-bit b c (λ b. alike-refl n (S b)) x y

@@ -4,7 +4,7 @@ use mathlib.Core.Bool.{Bool, true, false, not}
 use mathlib.Core.Logic.{_⊎_, inl, inr, ⊎-elim}
 use Prim.Native.Nat.{ℕ, suc, _+_}
 use native.Mathlib.Omega.{arith}
-use Rattle.heights.proofs.Heights.Part.{Part, _⊕_, Same, same-refl, Out}
+use Rattle.heights.proofs.Heights.Part.{Part, _⊕_, Same, same-refl, more-at, at-more, Out}
 
 abbrev pub Sides : Type 0
 Sides = Bool → Part
@@ -56,11 +56,7 @@ out-side {n} {e} b S T a k =
     record {
       date = a .date;
       present = omega (arith, a .present, S (not b) .anti e (suc e) (omega arith), whole-at b S (suc e), whole-at b S e);
-      rest =
-          record {
-            low = λ s h j. omega (arith, a .rest .low s h j, k .is s h, whole-at b S s, whole-at b T s);
-            high = λ s h j. omega (arith, a .rest .high s h j, k .is s h, whole-at b S s, whole-at b T s);
-          };
+      rest = at-more (λ s h. omega (arith, more-at (a .rest) s h, k .is s h, whole-at b S s, whole-at b T s));
     }
 
 -- a side is replaced by what is left of it

@@ -1,37 +1,37 @@
 -- The tight slot of the whole board and those of its sides: if a tight job is on a side, that side's tight slot is no later, so what is tight
 -- on that side is tight; if no tight job is on a side, the other side has the tight slot of the whole. And which side is chosen.
-use mathlib.Core.Path.{_≡_, refl}
+use mathlib.Core.Path.{_≡_}
 use mathlib.Core.Bool.{Bool, true, false, not}
 use mathlib.Core.Logic.{⊎-elim}
 use Prim.Native.Nat.{ℕ, suc, _≤_, _<_}
 use native.Mathlib.Omega.{arith}
-use Rattle.heights.proofs.Heights.Part.{Part, _⊕_, Same, Out, cmp, not-above}
-use Rattle.heights.proofs.Heights.TightSlot.{TightSlot, tight-swap, tight-unique, tight-fall, tight-same}
+use Rattle.heights.proofs.Heights.Part.{Part, Same, Out, cmp, not-above}
+use Rattle.heights.proofs.Heights.TightSlot.{TightSlot, tight-fall, tight-same}
 use Rattle.heights.proofs.Heights.Exists.{tight-slot}
-use Rattle.heights.proofs.Sides.Board.{Sides, whole, SameSides, whole-same}
-
-inner-first : {n l m : ℕ} (A B : Part) → TightSlot n (A ⊕ B) l → A .at (suc l) < A .at n → TightSlot n A m → m ≤ l
-inner-first {n} {l} {m} A B T f U =
-    not-above m l (λ h. omega (arith, U .upto (suc l) (omega (arith, T .date)) h f, T .past (suc m) (omega arith), B .anti (suc l) (suc m) (omega arith)))
-
-other-second : {n l : ℕ} (A B : Part) → TightSlot n (A ⊕ B) l → A .at (suc l) ≡ A .at n → TightSlot n B l
-other-second {n} {l} A B T f =
-    record {
-      date = T .date;
-      present = omega (arith, T .present, A .anti n l (T .date));
-      past = λ s h. omega (arith, T .past s h, A .anti (suc l) s h);
-      upto = λ s h j g. omega (arith, T .upto s h j (omega (arith, A .anti n s h)), A .anti n s h);
-    }
+use Rattle.heights.proofs.Sides.Board.{whole-at, Sides, whole, SameSides, whole-same}
 
 -- a tight job is on side b: the tight slot of the side is no later (D1)
 pub inner-tight : {n l m : ℕ} (b : Bool) (S : Sides) → TightSlot n (whole S) l → S b .at (suc l) < S b .at n → TightSlot n (S b) m → m ≤ l
-inner-tight false S T f U = inner-first (S false) (S true) T f U
-inner-tight true S T f U = inner-first (S true) (S false) (tight-swap (S false) (S true) T) f U
+inner-tight {n} {l} {m} b S T f U =
+    not-above m l (λ h. omega (
+      arith,
+      U .upto (suc l) (omega (arith, T .date)) h f,
+      T .past (suc m) (omega arith),
+      S (not b) .anti (suc l) (suc m) (omega arith),
+      whole-at b S (suc l),
+      whole-at b S (suc m),
+    ))
 
 -- no tight job is on side b: the other side has the same tight slot (D2)
 pub other-tight : {n l : ℕ} (b : Bool) (S : Sides) → TightSlot n (whole S) l → S b .at (suc l) ≡ S b .at n → TightSlot n (S (not b)) l
-other-tight false S T f = other-second (S false) (S true) T f
-other-tight true S T f = other-second (S true) (S false) (tight-swap (S false) (S true) T) f
+other-tight {n} {l} b S T f =
+    let at = whole-at b S in
+    record {
+      date = T .date;
+      present = omega (arith, T .present, S b .anti n l (T .date), at l, at (suc l));
+      past = λ s h. omega (arith, T .past s h, S b .anti (suc l) s h, at s, at (suc l));
+      upto = λ s h j g. omega (arith, T .upto s h j (omega (arith, S b .anti n s h, at s, at n)), S b .anti n s h, at s, at (suc l));
+    }
 
 -- x is the count past the tight slot and y the count now, of the 0-side: false is picked if a tight job is there
 abbrev pub Pick : Bool → ℕ → ℕ → Type 0
@@ -67,21 +67,6 @@ chosen-within {S = S} b c U = inner-tight b S (c .tight) (chosen-fall b c) U
 pub chosen-one : {n l : ℕ} {S : Sides} → Chosen n l S true → TightSlot n (S true) l
 chosen-one {S = S} c = other-tight false S (c .tight) (c .pick)
 
--- only one side is chosen
-pub chosen-bit : {n l m : ℕ} {S : Sides} (b c : Bool) → Chosen n l S b → Chosen n m S c → b ≡ c
-chosen-bit {n} {S = S} b c x y = go b c x y
-  where
-    never : {l m : ℕ} → Chosen n l S false → Chosen n m S true → ⊥
-    never {l} {m} x y =
-        let e = tight-unique (x .tight) (y .tight) in
-        omega (arith, x .pick, y .pick, S false .anti (suc l) (suc m) (omega arith), S false .anti (suc m) (suc l) (omega arith))
-
-    go : {l m : ℕ} (b c : Bool) → Chosen n l S b → Chosen n m S c → b ≡ c
-    go false false x y = refl
-    go true true x y = refl
-    go false true x y = absurd (never x y)
-    go true false x y = absurd (never y x)
-
 -- only the counts from n on matter
 pub chosen-same : {n l : ℕ} {R S : Sides} (b : Bool) → SameSides n R S → Chosen n l S b → Chosen n l R b
 chosen-same {n} {l} {R} {S} b e c = record { tight = tight-same (whole-same e) (c .tight); pick = go b (c .pick) }
@@ -90,22 +75,21 @@ chosen-same {n} {l} {R} {S} b e c = record { tight = tight-same (whole-same e) (
     go false p = omega (arith, e false .is n (omega arith), e false .is (suc l) (omega (arith, c .tight .date)))
     go true p = omega (arith, e false .is n (omega arith), e false .is (suc l) (omega (arith, c .tight .date)))
 
--- a job leaves side b of S in slot n, T is left: one that is tight in the whole, and one that is tight on its side
-pub record TightTake (n : ℕ) (S T : Sides) (b : Bool) : Type 0 where
+-- in slot n a job leaves side b of S, up to the tight slot of X, and T is left
+pub record Take (n : ℕ) (X : Part) (S T : Sides) (b : Bool) : Type 0 where
   pub slot : ℕ
   pub last : ℕ
-  pub tight : TightSlot n (whole S) slot
+  pub tight : TightSlot n X slot
   pub out : Out n last (S b) (T b)
   pub within : last ≤ slot
   pub kept : Same (suc n) (S (not b)) (T (not b))
 
-pub record SideTake (n : ℕ) (S T : Sides) (b : Bool) : Type 0 where
-  pub slot : ℕ
-  pub last : ℕ
-  pub tight : TightSlot n (S b) slot
-  pub out : Out n last (S b) (T b)
-  pub within : last ≤ slot
-  pub kept : Same (suc n) (S (not b)) (T (not b))
+-- one that is tight in the whole, and one that is tight on its side
+abbrev pub TightTake : ℕ → Sides → Sides → Bool → Type 0
+TightTake n S T b = Take n (whole S) S T b
+
+abbrev pub SideTake : ℕ → Sides → Sides → Bool → Type 0
+SideTake n S T b = Take n (S b) S T b
 
 -- from the side chosen, the second is the first
 pub chosen-le : {n l : ℕ} {S T : Sides} (b : Bool) → Chosen n l S b → (t : SideTake n S T b) → t .last ≤ l

@@ -1,17 +1,15 @@
 -- Two trees whose sides are alike: the same side is chosen in both, and the sides stay alike when jobs of positive order leave, when time passes, and
 -- when the same jobs arrive.
-use mathlib.Core.Path.{_≡_, refl}
+use mathlib.Core.Path.{_≡_}
 use mathlib.Core.Bool.{Bool, true, false, not}
 use mathlib.Core.List.{List}
 use Prim.Native.Nat.{ℕ, suc}
 use native.Mathlib.Omega.{arith}
 use Rattle.heights.proofs.Heights.Part.{Part}
-use Rattle.heights.proofs.Heights.Reach.{Reach, Alike, alike-sym, alike-join, alike-sum, alike-same}
+use Rattle.heights.proofs.Heights.Reach.{Reach, Alike, alike-join, alike-sum, alike-same}
 use Rattle.heights.proofs.Heights.Removal.{alike-out}
 use Rattle.heights.proofs.Sides.Board.{each-bit}
-use Rattle.heights.proofs.Sides.Tight.{Chosen}
-use Rattle.heights.proofs.Sides.Ahead.{Ahead, same-choice}
-use Rattle.heights.proofs.Trees.Tree.{Tree, total, sides, join-tree, SameTree, total-same, total-join}
+use Rattle.heights.proofs.Trees.Tree.{Tree, total, join-tree, SameTree, total-same, total-join}
 use Rattle.heights.proofs.Trees.NoRegret.{Down, NoRegret, no-regret-tight}
 
 abbrev pub AlikeSides : (d n : ℕ) → Tree (suc d) → Tree (suc d) → Type 0
@@ -41,18 +39,6 @@ pub sides-pass : (d n : ℕ) (S T A B : Tree (suc d)) → AlikeSides d n S T →
     → AlikeSides d (suc n) A B
 unfolding SameTree
 sides-pass d n S T A B a k l = λ b. alike-pass d n (S b) (T b) (A b) (B b) (a b) (k b) (l b)
-
-ahead : (d n : ℕ) (S T : Tree (suc d)) → AlikeSides d n S T → Ahead n (sides d S) (sides d T)
-ahead d n S T a = record { side = λ b. a b .to; back = alike-sum (a false) (a true) .fro }
-
--- the same side is chosen
-pub same-bit : {n l m : ℕ} (d : ℕ) (S T : Tree (suc d)) (b c : Bool) → AlikeSides d n S T → Chosen n l (sides d S) b → Chosen n m (sides d T) c
-    → b ≡ c
-same-bit d S T false false a x y = refl
-same-bit d S T true true a x y = refl
-same-bit {n} d S T false true a x y =
-    absurd (omega (arith, y .pick, same-choice false (ahead d n T S (λ b. alike-sym (a b))) (y .tight) (x .tight) (x .pick)))
-same-bit {n} d S T true false a x y = absurd (omega (arith, x .pick, same-choice false (ahead d n S T a) (x .tight) (y .tight) (y .pick)))
 
 -- jobs leave the side chosen
 pub sides-out : (i j d n : ℕ) (S T A B : Tree (suc d)) (b : Bool) (w v : List Bool) → AlikeSides d n S T

@@ -26,10 +26,15 @@ flat d [] = []
 flat d (served F ∷ fs) = served (sides d F) ∷ flat d fs
 flat d (idle F ∷ fs) = idle (sides d F) ∷ flat d fs
 
--- P has the counts of S from n on, and nothing leaves S
+-- P has the counts of S from n on, and nothing leaves side x of S
+flat-kept : (d n : ℕ) {P : Sides} (S T : Tree (suc d)) (x : Bool) → SameSides n P (sides d S) → SameTree d (suc n) (S x) (T x)
+    → Same (suc n) (P x) (sides d T x)
+flat-kept d n S T x a k = same-trans (same-later (suc n) (omega arith) (a x)) (total-same d (suc n) (S x) (T x) k)
+
+-- nor any side
 flat-pass : (d n : ℕ) {P : Sides} (S T : Tree (suc d)) → SameSides n P (sides d S) → SameTree (suc d) (suc n) S T → SameSides (suc n) P (sides d T)
 unfolding SameTree
-flat-pass d n S T a k = λ b. same-trans (same-later (suc n) (omega arith) (a b)) (total-same d (suc n) (S b) (T b) (k b))
+flat-pass d n S T a k = λ b. flat-kept d n S T b a (k b)
 
 flat-empty : (d n : ℕ) {P : Sides} (S : Tree (suc d)) → SameSides n P (sides d S) → total (suc d) S .at n ≡ 0 → whole P .at n ≡ 0
 unfolding total
@@ -38,11 +43,6 @@ flat-empty d n S a e = omega (arith, a false .is n (omega arith), a true .is n (
 flat-next : (d n : ℕ) (T F : Tree (suc d)) → SameSides n (join (sides d T) (sides d F)) (sides d (join-tree (suc d) T F))
 unfolding join-tree
 flat-next d n T F = λ b. record { is = λ s h. sym (total-join d (T b) (F b) s) }
-
--- what leaves a side
-flat-kept : (d n : ℕ) {P : Sides} (S T : Tree (suc d)) (x : Bool) → SameSides n P (sides d S) → SameTree d (suc n) (S x) (T x)
-    → Same (suc n) (P x) (sides d T x)
-flat-kept d n S T x a k = same-trans (same-later (suc n) (omega arith) (a x)) (total-same d (suc n) (S x) (T x) k)
 
 good-step : (d n : ℕ) (g : Count) (P : Sides) (S T : Tree (suc d)) → SameSides n P (sides d S) → Step 1 (suc d) n S T g
     → GoodStep n P (sides d T) (g zero-bit)

@@ -8,7 +8,7 @@ use Rattle.heights.proofs.Heights.TightSlot.{TightSlot, tight-same}
 use Rattle.heights.proofs.Heights.Removal.{TightOut}
 use Rattle.heights.proofs.Sides.Board.{whole}
 use Rattle.heights.proofs.Sides.Tight.{Chosen, chosen-within, chosen-same}
-use Rattle.heights.proofs.Trees.Tree.{Tree, total, sides, SameTree, OutTree, same-tree-trans, same-tree-later, total-same, total-out, out-tree-same, out-tree-left}
+use Rattle.heights.proofs.Trees.Tree.{Tree, total, sides, SameTree, OutTree, same-tree-trans, same-tree-later, total-same, total-out, out-tree-same}
 
 -- a tight job of grade w leaves
 pub record TightLeaf (d n : ℕ) (S T : Tree d) (w : List Bool) : Type 0 where
@@ -91,20 +91,4 @@ no-regret-same (suc j) (suc d) n R S T (b ∷ w) e g =
       inner = no-regret-same j d n (R b) (S b) (T b) w (e b) (g .inner);
       kept =
           same-tree-trans d (suc n) (R (not b)) (S (not b)) (T (not b)) (same-tree-later d n (suc n) (R (not b)) (S (not b)) (omega arith) (e (not b))) (g .kept);
-    }
-
--- and of what is left
-pub no-regret-left : (j d n : ℕ) (S T U : Tree d) (w : List Bool) → SameTree d (suc n) T U → NoRegret j d n S T w → NoRegret j d n S U w
-unfolding NoRegret SameTree
-no-regret-left zero d n S T U w e g =
-    record { slot = g .slot; last = g .last; tight = g .tight; out = out-tree-left d n (g .last) S T U w e (g .out); within = g .within }
-no-regret-left (suc j) zero n S T U w e g =
-    record { slot = g .slot; last = g .last; tight = g .tight; out = out-tree-left zero n (g .last) S T U w e (g .out); within = g .within }
-no-regret-left (suc j) (suc d) n S T U [] e g = g
-no-regret-left (suc j) (suc d) n S T U (b ∷ w) e g =
-    record {
-      slot = g .slot;
-      chosen = g .chosen;
-      inner = no-regret-left j d n (S b) (T b) (U b) w (e b) (g .inner);
-      kept = same-tree-trans d (suc n) (S (not b)) (T (not b)) (U (not b)) (g .kept) (e (not b));
     }

@@ -6,11 +6,12 @@ use Prim.Native.Nat.{ℕ, suc, _+_}
 use native.Mathlib.Omega.{arith}
 use Rattle.heights.proofs.Heights.Reach.{reach-none}
 use Rattle.heights.proofs.Heights.Removal.{tight-some}
+use Rattle.heights.proofs.Sides.Ahead.{same-bit}
 use Rattle.heights.proofs.Sides.Board.{Slot, served, idle, each-bit}
 use Rattle.heights.proofs.Trees.Tree.{Tree, join-tree, SameTree}
 use Rattle.heights.proofs.Trees.NoRegret.{Down, NoRegret, no-regret-tight}
 use Rattle.heights.proofs.Trees.Run.{starts, starts-here, starts-other, Count, Step, rest, take, Run, stop, pass, serve, run-count}
-use Rattle.heights.proofs.Trees.Alike.{AlikeSides, alike-total, sides-arrive, sides-pass, same-bit, sides-out}
+use Rattle.heights.proofs.Trees.Alike.{AlikeSides, alike-total, sides-arrive, sides-pass, sides-out}
 
 -- the counts on a side: of the bit of a job that left, and of the other
 count-here : (c e : Count) (b : Bool) (w : List Bool) → ((v : List Bool) → c v ≡ starts v (b ∷ w) + e v) → (v : List Bool)
@@ -69,7 +70,7 @@ both-step i j d {n} F S T A B c e c' e' b a (take w g) (rest x s) p q ih =
 both-step i j d F S T A B c e c' e' b a (take [] g) (take v h) p q ih = absurd g
 both-step i j d F S T A B c e c' e' b a (take (x ∷ w) g) (take [] h) p q ih = absurd h
 both-step i j d {n} F S T A B c e c' e' b a (take (x ∷ w) g) (take (y ∷ v) h) p q ih =
-    go (same-bit d S T x y a (g .chosen) (h .chosen)) h q
+    go (same-bit x y a (g .chosen) (h .chosen)) h q
   where
     go : {y : Bool} → x ≡ y → Down d n T B y (NoRegret j d n (T y) (B y) v) → ((u : List Bool) → e u ≡ starts u (y ∷ v) + e' u)
         → OnSide i j d n S T c e b

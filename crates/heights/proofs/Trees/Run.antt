@@ -7,7 +7,7 @@ use Prim.Native.Nat.{ℕ, suc, _+_}
 use native.Mathlib.Omega.{arith}
 use Rattle.heights.proofs.Sides.Board.{Slot, served, idle}
 use Rattle.heights.proofs.Trees.Tree.{Tree, total, join-tree, SameTree, same-tree-trans, same-tree-later, total-same}
-use Rattle.heights.proofs.Trees.NoRegret.{NoRegret, wider, no-regret-same}
+use Rattle.heights.proofs.Trees.NoRegret.{NoRegret, no-regret-same}
 
 -- 1 if w starts with v, else 0
 unfoldable pub starts : List Bool → List Bool → ℕ
@@ -17,10 +17,6 @@ starts (true ∷ v) (true ∷ w) = starts v w
 starts (true ∷ v) (false ∷ w) = 0
 starts (false ∷ v) (true ∷ w) = 0
 starts (false ∷ v) (false ∷ w) = starts v w
-
-pub starts-nil : (w : List Bool) → starts [] w ≡ 1
-unfolding starts
-starts-nil w = refl
 
 pub starts-here : (b : Bool) (v w : List Bool) → starts (b ∷ v) (b ∷ w) ≡ starts v w
 unfolding starts
@@ -67,13 +63,3 @@ pub run-same : {j d n : ℕ} {R S : Tree d} {fs : List (Slot (Tree d))} {c : Cou
 run-same e (stop z) = stop z
 run-same {d = d} {n} {R} {S} e (pass T s r) = pass T (same-tree-trans d (suc n) R S T (same-tree-later d n (suc n) R S (omega arith) e) s) r
 run-same e (serve T g b s r q) = serve T g b (step-same e s) r q
-
-narrow-step : {j d n : ℕ} {S T : Tree d} {g : Count} → Step (suc j) d n S T g → Step j d n S T g
-narrow-step (rest z k) = rest z k
-narrow-step {j} {d} {n} {S} {T} (take w g) = take w (wider j d n S T w g)
-
--- a run of order j + 1 is one of order j
-pub narrower : {j d n : ℕ} {S : Tree d} {fs : List (Slot (Tree d))} {c : Count} → Run (suc j) d n S fs c → Run j d n S fs c
-narrower (stop z) = stop z
-narrower (pass T s r) = pass T s (narrower r)
-narrower (serve T g e s r q) = serve T g e (narrow-step s) (narrower r) q

@@ -6,7 +6,7 @@ use mathlib.Core.List.{List, [], _∷_}
 use Prim.Native.Nat.{ℕ, zero, suc, _+_, _≤_}
 use native.Mathlib.Omega.{arith}
 use lib.ListN.{length}
-use Rattle.heights.proofs.Heights.Part.{Part, _⊕_, Same, same-refl, same-sym, same-trans, same-later, same-join, Out, out-same, out-left}
+use Rattle.heights.proofs.Heights.Part.{Part, _⊕_, Same, same-refl, same-sym, same-trans, same-later, same-join, Out, out-same}
 use Rattle.heights.proofs.Sides.Board.{Sides, out-side}
 
 abbrev pub Tree : ℕ → Type 0
@@ -58,11 +58,6 @@ unfolding SameTree
 same-tree-later zero n m S T h e = same-later m h e
 same-tree-later (suc d) n m S T h e = λ b. same-tree-later d n m (S b) (T b) h (e b)
 
-pub same-tree-join : (d n : ℕ) (S T F G : Tree d) → SameTree d n S T → SameTree d n F G → SameTree d n (join-tree d S F) (join-tree d T G)
-unfolding SameTree join-tree
-same-tree-join zero n S T F G e f = same-join e f
-same-tree-join (suc d) n S T F G e f = λ b. same-tree-join d n (S b) (T b) (F b) (G b) (e b) (f b)
-
 pub total-same : (d n : ℕ) (S T : Tree d) → SameTree d n S T → Same n (total d S) (total d T)
 unfolding total SameTree
 total-same zero n S T e = e
@@ -99,11 +94,3 @@ out-tree-same (suc d) n p R S T (b ∷ w) e o = (
   out-tree-same d n p (R b) (S b) (T b) w (e b) (o .0),
   same-tree-trans d (suc n) (R (not b)) (S (not b)) (T (not b)) (same-tree-later d n (suc n) (R (not b)) (S (not b)) (omega arith) (e (not b))) (o .1),
 )
-
-pub out-tree-left : (d n p : ℕ) (S T U : Tree d) (w : List Bool) → SameTree d (suc n) T U → OutTree d n p S T w → OutTree d n p S U w
-unfolding OutTree SameTree
-out-tree-left zero n p S T U [] e o = out-left e o
-out-tree-left zero n p S T U (b ∷ w) e o = absurd o
-out-tree-left (suc d) n p S T U [] e o = absurd o
-out-tree-left (suc d) n p S T U (b ∷ w) e o =
-    (out-tree-left d n p (S b) (T b) (U b) w (e b) (o .0), same-tree-trans d (suc n) (S (not b)) (T (not b)) (U (not b)) (o .1) (e (not b)))

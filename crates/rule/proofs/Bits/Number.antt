@@ -3,7 +3,7 @@ use mathlib.Core.Path.{_≡_, refl, sym, ap, ap₂, _∙_}
 use mathlib.Core.Bool.{Bool, true, false}
 use mathlib.Core.List.{List, [], _∷_, _++_}
 use Prim.Native.Nat.{ℕ, zero, suc, _+_, _*_, _/_, _%_, _^_, _<_}
-use native.Mathlib.Nat.{pow-succ', mod-eq-of-lt, mod-lt, mod-one}
+use native.Mathlib.Nat.{pow-succ', mod-lt, mod-one}
 use native.Mathlib.Omega.{arith}
 use lib.Dec.{eqb}
 use lib.Arith.{digits-div, mod-mul}
@@ -71,13 +71,6 @@ pub bits-number : (d : ℕ) (w : List Bool) → length w ≡ d → bits d (numbe
 bits-number d w h =
     let e : 0 * 2 ^ length w + number w ≡ number w = omega arith in
     rw (← h) (ap (bits (length w)) (sym e) ∙ bits-below w 0)
-
-pub number-lt : (d : ℕ) (w : List Bool) → length w ≡ d → number w < 2 ^ d
-number-lt d w h = rw (← h) (number-below w)
-
--- equal bits, equal grades
-pub bits-injective : (d g h : ℕ) → g < 2 ^ d → h < 2 ^ d → bits d g ≡ bits d h → g ≡ h
-bits-injective d g h a b e = sym (mod-eq-of-lt a) ∙ sym (number-bits d g) ∙ ap number e ∙ number-bits d h ∙ mod-eq-of-lt b
 
 -- the number of a list in two parts
 pub number-append : (u v : List Bool) → number (u ++ v) ≡ number u * 2 ^ length v + number v

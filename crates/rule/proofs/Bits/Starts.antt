@@ -18,11 +18,6 @@ pub bit-same : (b : Bool) → Bool·beq b b ≡ true
 bit-same true = refl
 bit-same false = refl
 
--- the empty list is a start of every list
-pub starts-none : (w : List Bool) → starts [] w ≡ true
-unfolding starts
-starts-none w = refl
-
 pub starts-append : (u v w : List Bool) → starts (u ++ v) w ≡ true → starts u w ≡ true
 unfolding starts
 starts-append [] v w h = refl
@@ -44,15 +39,6 @@ starts-next b [] (c ∷ w) h l = go b c
 starts-next b (a ∷ u) [] h l = never h refl
 starts-next b (a ∷ u) (c ∷ w) h l =
     rw (and-left (Bool·beq a c) (starts u w) h) (starts-next b u w (and-right (Bool·beq a c) (starts u w) h) (omega arith))
-
--- a start as long as the list is the list
-pub starts-whole : (u w : List Bool) → starts u w ≡ true → length u ≡ length w → u ≡ w
-unfolding starts
-starts-whole [] [] h l = refl
-starts-whole [] (c ∷ w) h l = absurd (omega arith)
-starts-whole (a ∷ u) [] h l = absurd (omega arith)
-starts-whole (a ∷ u) (c ∷ w) h l =
-    ap₂ (λ x v. x ∷ v) (same-bit a c (and-left (Bool·beq a c) (starts u w) h)) (starts-whole u w (and-right (Bool·beq a c) (starts u w) h) (omega arith))
 
 -- a list is a start of what it is the first part of, and what has a start has the rest behind it
 pub starts-self : (u v : List Bool) → starts u (u ++ v) ≡ true

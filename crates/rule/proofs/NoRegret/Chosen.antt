@@ -18,7 +18,7 @@ use Rattle.rule.specs.Job.{Job, in-date}
 use Rattle.rule.specs.Grade.{graded, starting}
 use Rattle.rule.specs.Tight.{tight}
 use Rattle.rule.specs.Descent.{next-bit}
-use Rattle.rule.proofs.Tight.Counts.{from-on, from-on-anti, member-falls, fall-member, in-date-all}
+use Rattle.rule.proofs.Tight.Counts.{from-on, part, member-falls, fall-member, in-date-all}
 use Rattle.rule.proofs.Tight.Slot.{tight-last, tight-mem, mem-tight, in-date-tight}
 use Rattle.rule.proofs.NoRegret.ByBit.{starting-none}
 use Rattle.rule.proofs.NoRegret.Items.{items, items-side, total-items, total-part}
@@ -56,7 +56,7 @@ module _ (now : ℕ) (L : List Job) (f : Job → Bool) where
 
       go : (from-on (select f L) now ≤ from-on (select f L) (suc l)) ⊎ (from-on (select f L) (suc l) < from-on (select f L) now)
           → from-on (select f L) (suc l) ≡ from-on (select f L) now
-      go (inl k) = omega (arith, from-on-anti (select f L) now (suc l) (omega arith))
+      go (inl k) = omega (arith, part (select f L) .anti now (suc l) (omega arith))
       go (inr k) =
           let (q, i, a, b) = fall-member (select f L) now (suc l) k in
           let s = select-mem f q L i in

@@ -34,7 +34,6 @@ pub total-items : (d : ℕ) (A : List Job) (s : ℕ) → total d (tree d (items 
 total-items d A s = omega (arith, total-tree d (items d A) s, items-count d A s)
 
 pub total-part : (d n : ℕ) (A : List Job) → Same n (total d (tree d (items d A))) (part A)
-unfolding part
 total-part d n A = record { is = λ s h. total-items d A s }
 
 -- the first of e + 1 bits

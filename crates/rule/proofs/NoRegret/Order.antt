@@ -6,7 +6,8 @@ use mathlib.Core.List.{List, [], _∷_, List·Memᴰ}
 use Prim.Native.Nat.{ℕ, zero, suc, _≤_, _<_}
 use native.Mathlib.Omega.{arith}
 use borrow.Author.Tests.{le-leb}
-use Rattle.heights.proofs.Sides.Tight.{Chosen, chosen-bit}
+use Rattle.heights.proofs.Sides.Tight.{Chosen}
+use Rattle.heights.proofs.Sides.Ahead.{chosen-bit}
 use Rattle.heights.proofs.Trees.Tree.{Tree, sides, OutTree, total-out}
 use Rattle.heights.proofs.Trees.NoRegret.{NoRegret, wider}
 use Rattle.heights.proofs.Items.Tree.{tree}

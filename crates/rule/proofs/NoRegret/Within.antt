@@ -1,22 +1,22 @@
 -- The no-regret set lies in the list, and is empty only with it. So a job is baked from every list but the empty one, and it is a no-regret job.
-use mathlib.Core.Path.{_≡_, refl, ap, _∙_}
+use mathlib.Core.Path.{_≡_, refl, ap, _∙_, sym}
 use mathlib.Core.Bool.{Bool, true, false, not}
 use mathlib.Core.Logic.{_⊎_, inl, inr}
 use mathlib.Core.List.{List, [], _∷_, _++_, List·Memᴰ, List·Memᴰ·head}
-use mathlib.Core.Option.{none, some}
+use mathlib.Core.Option.{none, some, Option·some-ne-none}
 use Prim.Native.Nat.{ℕ, zero, suc, _+_, _≤_, _<_}
 use native.Mathlib.Omega.{arith}
 use lib.Dec.{leb}
 use lib.ListN.{length, length-append}
 use borrow.Author.Tests.{le-leb}
-use Rattle.lists.specs.Select.{select, has}
+use Rattle.lists.specs.Select.{has}
 use Rattle.lists.proofs.Tests.{test}
 use Rattle.lists.proofs.Members.{select-mem, mem-select, has-mem, has-none}
 use Rattle.rule.specs.Job.{Job, laxity}
 use Rattle.rule.specs.Grade.{bits, starts, graded, starting}
 use Rattle.rule.specs.Tight.{tight-laxity, tight}
 use Rattle.rule.specs.Descent.{next-bit, descend, no-regret-after, no-regret}
-use Rattle.rule.specs.Bake.{soonest, baked}
+use Rattle.rule.specs.Bake.{baked}
 use Rattle.rule.proofs.Bits.Number.{length-bits}
 use Rattle.rule.proofs.Bits.Starts.{starts-next}
 use Rattle.rule.proofs.Tight.Laxity.{tight-laxity-is}
@@ -47,13 +47,6 @@ unfolding no-regret-after
 after-mem now d j A m =
     let u = descend now d A j [] in
     starting-mem d u A (tight-in now (starting d u A) m) .0
-
-pub length-descend : (now d : ℕ) (A : List Job) (n : ℕ) (u : List Bool) → length (descend now d A n u) ≡ length u + n
-unfolding descend
-length-descend now d A zero u = omega arith
-length-descend now d A (suc n) u =
-    let b = next-bit now d A u in
-    omega (arith, length-descend now d A n (u ++ (b ∷ [])), length-append u (b ∷ []))
 
 -- the bit that is added leads to a job
 next-some : (now d : ℕ) (A : List Job) (u : List Bool) {r : Job} → length u < d → List·Memᴰ r (starting d u A)
@@ -106,8 +99,4 @@ baked-some now d A m = soonest-some (no-regret now d A) (after-some now d d A (o
 
 pub baked-none : (now d : ℕ) (A : List Job) → baked now d A ≡ none → A ≡ []
 baked-none now d [] e = refl
-baked-none now d (r ∷ A) e = let s = baked-some now d (r ∷ A) (List·Memᴰ·head refl) in let z : _≡_ {A = ℕ} 0 1 = cc (s .1) in absurd (omega arith)
-
-pub baked-nil : (now d : ℕ) → baked now d [] ≡ none
-unfolding baked no-regret no-regret-after tight starting select soonest
-baked-nil now d = refl
+baked-none now d (r ∷ A) e = let s = baked-some now d (r ∷ A) (List·Memᴰ·head refl) in absurd (Option·some-ne-none (s .0) (sym (s .1) ∙ e))

@@ -9,6 +9,7 @@ use lib.Dec.{leb}
 use lib.ListN.{length}
 use borrow.Author.Tests.{leb-true, le-leb}
 use Rattle.heights.proofs.Heights.Part.{Part, Same}
+use Rattle.heights.proofs.Heights.Counted.{from-on-nil as counted-nil, from-on-cons as counted-cons, part-of}
 use Rattle.lists.specs.Select.{select, how-many}
 use Rattle.lists.proofs.Tests.{cmp, and-right, and-intro, same-test}
 use Rattle.lists.proofs.Members.{select-mem}
@@ -21,39 +22,18 @@ abbrev pub from-on : List Job → ℕ → ℕ
 from-on A s = how-many (λ (r : Job). leb s (r .last)) A
 
 pub from-on-cons : (r : Job) (A : List Job) (s : ℕ) → from-on (r ∷ A) s ≡ min 1 (suc (r .last) - s) + from-on A s
-unfolding how-many
-from-on-cons r A s = omega (arith, one-leb s (r .last))
+from-on-cons r A s = counted-cons (λ (r : Job). r .last) r A s
 
 pub from-on-nil : (s : ℕ) → from-on [] s ≡ 0
-unfolding how-many
-from-on-nil s = refl
+from-on-nil s = counted-nil (λ (r : Job). r .last) s
 
-pub from-on-anti : (A : List Job) (s t : ℕ) → s ≤ t → from-on A t ≤ from-on A s
-from-on-anti [] s t h = omega (arith, from-on-nil s, from-on-nil t)
-from-on-anti (r ∷ A) s t h = omega (arith, from-on-cons r A s, from-on-cons r A t, from-on-anti A s t h)
-
--- a slot past all last slots
-unfoldable pub past-all : List Job → ℕ
-past-all [] = 0
-past-all (r ∷ A) = suc (r .last) + past-all A
-
-pub from-on-past : (A : List Job) → from-on A (past-all A) ≡ 0
-unfolding past-all
-from-on-past [] = from-on-nil 0
-from-on-past (r ∷ A) =
-    omega (arith, from-on-cons r A (suc (r .last) + past-all A), from-on-anti A (past-all A) (suc (r .last) + past-all A) (omega arith), from-on-past A)
-
-unfoldable pub part : List Job → Part
-part A = record { at = from-on A; anti = from-on-anti A; end = past-all A; none = from-on-past A }
-
-pub part-at : (A : List Job) (s : ℕ) → part A .at s ≡ from-on A s
-unfolding part
-part-at A s = refl
+abbrev pub part : List Job → Part
+part A = part-of (λ (r : Job). r .last) A
 
 -- past a member's last slot the count has fallen
 pub member-falls : {A : List Job} {r : Job} → List·Memᴰ r A → (s t : ℕ) → s ≤ r .last → r .last < t → from-on A t < from-on A s
 member-falls {r = r} (List·Memᴰ·head {x = q} {xs = A} e) s t h k =
-    omega (arith, ap (λ (x : Job). x .last) e, from-on-cons q A s, from-on-cons q A t, from-on-anti A s t (omega arith))
+    omega (arith, ap (λ (x : Job). x .last) e, from-on-cons q A s, from-on-cons q A t, part A .anti s t (omega arith))
 member-falls (List·Memᴰ·tail {x = q} {xs = A} m) s t h k = omega (arith, member-falls m s t h k, from-on-cons q A s, from-on-cons q A t)
 
 -- where the count has fallen there is a member
@@ -84,7 +64,7 @@ in-date-all now L r m = leb-true now (r .last) (select-mem (λ (q : Job). leb no
 
 -- the jobs in date have the counts of all, from now on
 pub in-date-same : (now : ℕ) (L : List Job) → Same now (part (select (in-date now) L)) (part L)
-unfolding in-date part
+unfolding in-date
 in-date-same now L =
     record {
       is =

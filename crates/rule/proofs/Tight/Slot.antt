@@ -1,7 +1,7 @@
 -- The tight slot of a list of jobs: its counts have it, and the tight jobs are those whose last slot is no later.
 use mathlib.Core.Path.{_≡_}
 use mathlib.Core.List.{List, List·Memᴰ}
-use Prim.Native.Nat.{ℕ, suc, _+_, _-_, _≤_}
+use Prim.Native.Nat.{ℕ, suc, _+_, _-_, _≤_, _<_}
 use native.Mathlib.Omega.{arith}
 use lib.Dec.{leb}
 use borrow.Author.Tests.{leb-true, le-leb}
@@ -23,27 +23,27 @@ laxity-last : (now : ℕ) (r : Job) → now ≤ r .last → suc (r .last) ≡ no
 unfolding laxity
 laxity-last now r h = omega arith
 
+-- where the count falls there is a job, and its laxity
+fall-laxity : {now : ℕ} {A : List Job} → AllInDate now A → (t : ℕ) → part A .at (suc t) < part A .at t → (r : Job) × List·Memᴰ r A × (suc t ≡ now + laxity now r)
+fall-laxity {now} {A} d t j =
+    let q = fall-member A t (suc t) j in
+    (q .0, q .1, omega (arith, laxity-last now (q .0) (d (q .0) (q .1)), q .2, q .3))
+
 tight-laxity-last : {now l : ℕ} {A : List Job} → AllInDate now A → TightLaxity now A l → (s : ℕ) → suc s ≡ now + l → SmallestExcess now (part A) s
-unfolding part
 tight-laxity-last {now} {l} {A} d T s e =
-    let r = T .present .0 in
-    let m = T .present .1 in
-    let k : r .last ≡ s = omega (arith, laxity-last now r (d r m), T .present .2) in
+    let (r, m, k) = T .present in
+    let last : r .last ≡ s = omega (arith, laxity-last now r (d r m), k) in
     record {
       date = omega (arith, d r m);
       present = member-falls m s (suc s) (omega arith) (omega arith);
       least =
           λ t h j.
-          let q = fall-member A t (suc t) j in
-          let i : q .0 .last ≡ t = omega arith in
-          let g = laxity-last now (q .0) (d (q .0) (q .1)) in
-          omega (arith, T .least (q .0) (q .1), up-to-from-on now A l s e, up-to-from-on now A (laxity now (q .0)) t (omega arith));
+          let q = fall-laxity d t j in
+          omega (arith, T .least (q .0) (q .1), up-to-from-on now A l s e, up-to-from-on now A (laxity now (q .0)) t (q .2));
       first =
           λ t h j b.
-          let q = fall-member A t (suc t) j in
-          let i : q .0 .last ≡ t = omega arith in
-          let g = laxity-last now (q .0) (d (q .0) (q .1)) in
-          omega (arith, T .first (q .0) (q .1) (omega arith), up-to-from-on now A l s e, up-to-from-on now A (laxity now (q .0)) t (omega arith));
+          let q = fall-laxity d t j in
+          omega (arith, T .first (q .0) (q .1) (omega arith), up-to-from-on now A l s e, up-to-from-on now A (laxity now (q .0)) t (q .2));
     }
 
 -- the slot after the tight one, where a job is in date

@@ -1,14 +1,10 @@
 -- What the search sees of a board, sound or not, and what the slot bakes of that.
-use mathlib.Core.Bool.{Bool}
-use mathlib.Core.List.{List, [], _∷_}
+use mathlib.Core.List.{List}
 use mathlib.Core.Option.{Option}
-use Prim.Native.Nat.{ℕ, _^_}
-use lib.Dec.{leb, ltb}
-use Rattle.lists.specs.Select.{select, every}
-use Rattle.rule.specs.Job.{Job, laxity, in-date}
+use Rattle.lists.specs.Select.{select}
+use Rattle.rule.specs.Job.{Job}
 use Rattle.rule.specs.Bake.{baked}
 use Rattle.board.specs.declared.Board.{Board}
-use Rattle.board.specs.Limits.{longest-laxity, deepest}
 use Rattle.board.specs.Held.{slot-of, held}
 use Rattle.thinning.specs.Kept.{seen-job}
 
