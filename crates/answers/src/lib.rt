@@ -3,13 +3,12 @@ ghost use mathlib.Core.Path.{_≡_};
 ghost use Prim.Native.Nat.{_+_, _*_, _≤_, _<_};
 ghost use lib.Dec.{leb};
 ghost use lib.ListN.{length};
-ghost use Rattle.board.specs.Limits.{places-held};
 ghost use Rattle.board.specs.Tally.{tally-kinds, tally-grades, count-at};
 ghost use Rattle.lines.specs.Printing.{printed};
 ghost use Rattle.lines.specs.Output.{printed-given-up, printed-closing, printed-answer, printed-tally};
 ghost use Rattle.printing.specs.Lines.{line-numbers, room};
 ghost use Rattle.answers.specs.Printed.{jobs-of, closing-of, answer-of, answer-room, answer-fits, tally-room, tally-fits, PutIf};
-ghost use Rattle.answers.specs.Inner.Put.{PutWithin};
+ghost use Rattle.answers.specs.Inner.Put.{PutWithin, Fits};
 use board::Board;
 use board::Slot;
 use board::Tally;
@@ -71,7 +70,7 @@ fn print_closing(
     out: &mut [u8],
     at: usize,
 ) -> usize
-    requires { ⌜ (length (now tickets) ≤ places-held) × (length (now grades) ≡ length (now tickets)) × (at + answer-room ≤ length (now out)) ⌝ }
+    requires { ⌜ Fits (now tickets) (now grades) at (now out) ⌝ }
     ensures { λ r.
         let lines = printed-closing (closing-of slot ticket grade (now (tickets .entry)) (now (grades .entry))) in
         ⌜ PutWithin answer-room lines (now (out .entry)) at r (now (out .exit)) ⌝ }
@@ -122,7 +121,7 @@ fn print_fitting(
     out: &mut [u8],
     at: usize,
 ) -> usize
-    requires { ⌜ (length (now tickets) ≤ places-held) × (length (now grades) ≡ length (now tickets)) × (at + answer-room ≤ length (now out)) ⌝ }
+    requires { ⌜ Fits (now tickets) (now grades) at (now out) ⌝ }
     ensures { λ r.
         let lines = printed-answer number (answer-of answer (now (tickets .entry)) (now (grades .entry))) in
         ⌜ PutWithin answer-room lines (now (out .entry)) at r (now (out .exit)) ⌝ }

@@ -94,15 +94,6 @@ module _ {A : Type 0} (p : A → Bool) where
   none-has [] f = refl
   none-has (a ∷ l) f = ap₂ _||_ (f a (List·Memᴰ·head refl)) (none-has l (λ x m. f x (List·Memᴰ·tail m)))
 
-  pub has-append : (k l : List A) → has p (k ++ l) ≡ (has p k || has p l)
-  unfolding has
-  has-append [] l = refl
-  has-append (a ∷ k) l = go (p a) (has-append k l)
-    where
-      go : (b : Bool) → has p (k ++ l) ≡ (has p k || has p l) → (b || has p (k ++ l)) ≡ (b || has p k || has p l)
-      go true e = refl
-      go false e = e
-
 -- tests that agree on the members select the same, and are passed by some member together
 module _ {A : Type 0} (p q : A → Bool) where
   pub select-cong : (l : List A) → ((x : A) → List·Memᴰ x l → p x ≡ q x) → select p l ≡ select q l

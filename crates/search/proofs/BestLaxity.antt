@@ -2,7 +2,7 @@
 use mathlib.Core.Path.{_≡_, refl, sym, ap, ap₂, _∙_, subst}
 use mathlib.Core.Bool.{Bool, true, false, not, _||_, cond}
 use mathlib.Core.Logic.{_⊎_, inl, inr, ⊎-elim}
-use mathlib.Core.List.{List, [], _∷_, _++_, List·Memᴰ, List·Memᴰ·head, List·Memᴰ·not-nil, List·Memᴰ·append-cases, List·Memᴰ·eq-of-singleton, Memᴰ·append-left, Memᴰ·append-right}
+use mathlib.Core.List.{List, [], _∷_, _++_, List·Memᴰ, List·Memᴰ·head, List·Memᴰ·not-nil, Memᴰ·append-left, Memᴰ·append-right}
 use Prim.Native.Nat.{ℕ, _+_, _≤_, _<_}
 use native.Mathlib.Omega.{arith}
 use lib.Dec.{leb, ltb}
@@ -13,6 +13,7 @@ use Rattle.lists.specs.Select.{select}
 use Rattle.lists.specs.Least.{least}
 use Rattle.lists.proofs.Tests.{test, and-left, and-right, and-false, or-cases, or-false}
 use Rattle.lists.proofs.Counting.{count-mem}
+use Rattle.lists.proofs.Members.{each-more}
 use Rattle.rule.specs.Job.{Job, laxity}
 use Rattle.rule.specs.Tight.{laxities, excess, tight-laxity}
 use Rattle.rule.proofs.Tight.Excess.{up-to, difference-up, difference-order, excess-order}
@@ -56,10 +57,6 @@ best-all {now} {A} (best-yet r m l x o f) = tight-laxity-only (record { present 
 
 -- one job more is looked at
 module _ (now : ℕ) (A : List Job) (r : Job) (m : List·Memᴰ r A) (l : Laxity) (is : laxity now r ≡ l .0) (x : ℤ) (of : x ≡ excess now A (l .0)) where
-  -- what holds of the jobs of L and of r
-  each : {P : Job → Type 0} (L : List Job) → ((q : Job) → List·Memᴰ q L → P q) → P r → (q : Job) → List·Memᴰ q (L ++ (r ∷ [])) → P q
-  each {P} L f g q i = ⊎-elim (λ j. f q j) (λ j. subst P (sym (List·Memᴰ·eq-of-singleton j)) g) (List·Memᴰ·append-cases L i)
-
   -- a job counts itself, so its excess is below the longest laxity
   small : (most : ℕ) → l .0 ≤ most → (leZ x (pos most) ≡ true) × (leZ (pos most) x ≡ false)
   unfolding excess
@@ -76,8 +73,8 @@ module _ (now : ℕ) (A : List Job) (r : Job) (m : List·Memᴰ r A) (l : Laxity
       → BestOf now A (L ++ (r ∷ [])) (record { excess = x; laxity = l })
   new-best L o f =
       let same = ap (up-to now A) is in
-      best-yet r (Memᴰ·append-right L (List·Memᴰ·head refl)) is of (each {P = AtMost now A (l .0)} L o (omega arith))
-      (each {P = First now A (l .0)} L f (λ k. absurd (omega arith)))
+      best-yet r (Memᴰ·append-right L (List·Memᴰ·head refl)) is of (each-more (AtMost now A (l .0)) L o (omega arith))
+      (each-more (First now A (l .0)) L f (λ k. absurd (omega arith)))
 
   -- the old best, that of q, or the new one
   module _ (L : List Job) (best : Best) (q : Job) (i : List·Memᴰ q L) (n : laxity now q ≡ best .laxity .0) (y : best .excess ≡ excess now A (best .laxity .0))
@@ -99,8 +96,8 @@ module _ (now : ℕ) (A : List Job) (r : Job) (m : List·Memᴰ r A) (l : Laxity
     older c =
         let same = ap (up-to now A) is in
         best-yet q (Memᴰ·append-left (r ∷ []) i) n y
-        (each {P = AtMost now A (best .laxity .0)} L o (⊎-elim (λ k. omega arith) (λ k. omega arith) c))
-        (each {P = First now A (best .laxity .0)} L f (λ b. ⊎-elim (λ k. omega arith) (λ k. absurd (omega arith)) c))
+        (each-more (AtMost now A (best .laxity .0)) L o (⊎-elim (λ k. omega arith) (λ k. omega arith) c))
+        (each-more (First now A (best .laxity .0)) L f (λ b. ⊎-elim (λ k. omega arith) (λ k. absurd (omega arith)) c))
 
     either : BestOf now A (L ++ (r ∷ [])) (cond (comes-before (leZ x (best .excess)) (leZ (best .excess) x) (l .0) (best .laxity .0)) (record { excess = x; laxity = l }) best)
     unfolding new-sum old-sum

@@ -24,7 +24,9 @@ fn has_zero(b: Board, start: u8, left: u8) -> bool
 // The start with its next bit: 0 where a job of the tight set has it, otherwise 1.
 fn next_start(b: Board, start: u8, left: u8) -> u8
     requires { ⌜ AllSeen b × Start (b .depth) start left × (1 ≤ left) ⌝ }
-    ensures { λ r. ⌜ (first-bits (b .depth) r (left - 1) ≡ first-bits (b .depth) start left ++ (next-bit (slot-of b) (b .depth) (held b) (first-bits (b .depth) start left) ∷ [])) × Start (b .depth) r (left - 1) ⌝ }
+    ensures { λ r.
+        let u = first-bits (b .depth) start left in
+        ⌜ (first-bits (b .depth) r (left - 1) ≡ u ++ (next-bit (slot-of b) (b .depth) (held b) u ∷ [])) × Start (b .depth) r (left - 1) ⌝ }
 {
     if has_zero(b, start, left) {
         return start * 2;

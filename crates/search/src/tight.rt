@@ -49,7 +49,9 @@ fn is_better(x: i32, l: Laxity, best: Best) -> bool
 
 // The best once `l`, with excess `x`, is looked at.
 fn better(x: i32, l: Laxity, best: Best) -> Best
-    ensures { λ r. ⌜ r ≡ cond (comes-before (leZ x (best .excess)) (leZ (best .excess) x) (l .0) (best .laxity .0)) (record { excess = x; laxity = l }) best ⌝ }
+    ensures { λ r.
+        let before = comes-before (leZ x (best .excess)) (leZ (best .excess) x) (l .0) (best .laxity .0) in
+        ⌜ r ≡ cond before (record { excess = x; laxity = l }) best ⌝ }
 {
     if is_better(x, l, best) {
         return Best {
