@@ -1,3 +1,4 @@
 pub mod Parts
+pub mod Ends
 pub mod Known
 pub mod Extending

@@ -1,18 +1,11 @@
 -- Laws of a part of a chunk: no byte, a byte at its start or its end, two parts joined, the whole.
-use mathlib.Core.Bool.{Bool, true, not, _&&_}
 use mathlib.Core.List.{[], _∷_, _++_}
 use mathlib.Core.Path.{_≡_, sym, ap, _∙_}
 use Prim.Native.Nat.{ℕ, suc, _+_, _-_, _≤_, _<_}
-use native.Mathlib.Numerals.{add-one}
 use native.Mathlib.Omega.{arith}
-use borrow.Author.Tests.{ne-eqb}
-use lib.Dec.{eqb}
 use lib.ListN.{length, take, drop, getD}
 use lib.Seq.{slice-empty, slice-cons, length-take-le, take-length, take-add, drop-append-le, drop-at}
-use Rattle.lists.specs.Select.{every}
-use Rattle.lists.proofs.Members.{every-append}
-use Rattle.lines.specs.Bytes.{Bytes, line-end}
-use Rattle.lines.proofs.Cutting.{one-line}
+use Rattle.lines.specs.Bytes.{Bytes}
 use Rattle.cutting.specs.Cut.{part}
 
 module _ (s : Bytes) where
@@ -41,11 +34,3 @@ module _ (s : Bytes) where
   pub part-whole : part s 0 (length s) ≡ s
   unfolding part
   part-whole = take-length s
-
--- one byte more that ends no line
-pub goes-on : (s : Bytes) (from i : ℕ) → from ≤ i → i < length s → one-line (part s from i) ≡ true → (getD s i 0 ≡ line-end → ⊥)
-    → one-line (part s from (i + 1)) ≡ true
-unfolding every
-goes-on s from i h k o n =
-    rw (add-one, part-last s from i h k)
-    (every-append (λ b. not (eqb b line-end)) (part s from i) (getD s i 0 ∷ []) o (ap (λ (b : Bool). not b && true) (ne-eqb (getD s i 0) line-end n)))

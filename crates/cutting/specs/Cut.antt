@@ -1,11 +1,11 @@
 -- A line cut from a chunk of bytes.
 use mathlib.Core.Path.{_≡_}
-use mathlib.Core.Bool.{true, not, cond}
+use mathlib.Core.Bool.{cond}
 use mathlib.Core.List.{[], _∷_}
-use Prim.Native.Nat.{ℕ, suc, _≤_, _<_}
-use lib.Dec.{eqb, ltb}
-use lib.ListN.{length, take, drop, getD}
-use Rattle.lists.specs.Select.{every}
+use Prim.Native.Nat.{ℕ, suc, _+_, _≤_}
+use lib.Dec.{ltb}
+use lib.ListN.{length, take, drop}
+use Rattle.lists.specs.Before.{before}
 use Rattle.lines.specs.Bytes.{Bytes, line-end}
 use Rattle.lines.specs.Machine.{extend, partial-room}
 use Rattle.cutting.specs.declared.Partial.{Partial}
@@ -24,18 +24,13 @@ extend-all l (b ∷ bs) = extend-all (extend b l) bs
 unfoldable pub part : Bytes → (from to : ℕ) → Bytes
 part chunk from to = drop from (take to chunk)
 
--- the line that goes on at `from` ends at `to`: at the next byte 10, or else at the chunk's end
-pub record LineEnds (chunk : Bytes) (from to : ℕ) : Type 0 where
-  pub forward : from ≤ to
-  pub inside : to ≤ length chunk
-  pub one-line : every (λ b. not (eqb b line-end)) (part chunk from to) ≡ true
-  pub ended : to < length chunk → getD chunk to 0 ≡ line-end
+-- where the line that goes on at `from` ends: at the next byte 10, or else at the chunk's end
+unfoldable pub line-end-from : Bytes → (from : ℕ) → ℕ
+line-end-from chunk from = from + before line-end (drop from chunk)
 
--- a line cut from the chunk's bytes from `from` on: where it ends, its bytes as far as they are kept, whether a line end was met, which is then used
+-- a line cut from the chunk's bytes from `from` on: its bytes as far as they are kept, whether its end was met, and how far the chunk is used, that end with it
 pub record CutFrom (h : Partial) (chunk : Bytes) (from : ℕ) (r : Cut) : Type 0 where
-  pub to : ℕ
-  pub ends : LineEnds chunk from to
-  pub line : partial-bytes (r .partial) ≡ extend-all (partial-bytes h) (part chunk from to)
+  pub line : partial-bytes (r .partial) ≡ extend-all (partial-bytes h) (part chunk from (line-end-from chunk from))
   pub few : r .partial .len ≤ partial-room
-  pub ended : r .ended ≡ ltb to (length chunk)
-  pub used : r .used ≡ cond (r .ended) (suc to) to
+  pub ended : r .ended ≡ ltb (line-end-from chunk from) (length chunk)
+  pub used : r .used ≡ cond (r .ended) (suc (line-end-from chunk from)) (line-end-from chunk from)

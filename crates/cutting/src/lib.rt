@@ -3,7 +3,7 @@ ghost use mathlib.Core.Path.{_≡_};
 ghost use Prim.Native.Nat.{_≤_, min};
 ghost use lib.ListN.{length, replicate};
 ghost use Rattle.lines.specs.Machine.{partial-room};
-ghost use Rattle.cutting.specs.Cut.{partial-bytes, part, extend-all, LineEnds, CutFrom};
+ghost use Rattle.cutting.specs.Cut.{partial-bytes, part, extend-all, CutFrom};
 
 // The bytes of a line so far, as many as there is room for: the first `len`.
 pub struct Partial {
@@ -33,21 +33,6 @@ pub fn no_bytes() -> Partial
     }
 }
 
-// Where the line that goes on at `from` ends: the place of the next byte 10, or the chunk's length.
-fn line_end(chunk: &[u8], from: usize) -> usize
-    requires { ⌜ from ≤ length (now chunk) ⌝ }
-    ensures { λ r. ⌜ LineEnds (now (chunk .entry)) from r ⌝ }
-{
-    let mut i = from;
-    while i < chunk.len() {
-        if chunk[i] == b'\n' {
-            return i;
-        }
-        i += 1;
-    }
-    i
-}
-
 // The line with the chunk's bytes from `from` up to `to` as well, as far as there is room.
 fn extend_part(h: Partial, chunk: &[u8], from: usize, to: usize) -> Partial
     requires { ⌜ (h .len ≤ partial-room) × (from ≤ to) × (to ≤ length (now chunk)) ⌝ }
@@ -71,7 +56,7 @@ pub fn cut_line(h: Partial, chunk: &[u8], from: usize) -> Cut
     ensures { λ r. ⌜ CutFrom h (now (chunk .entry)) (min from (length (now (chunk .entry)))) r ⌝ }
 {
     let start = lists::lesser(from, chunk.len());
-    let end = line_end(chunk, start);
+    let end = lists::next_byte(chunk, start, b'\n');
     let mut begun = h;
     begun.len = lists::lesser(h.len, Partial::ROOM);
     let partial = extend_part(begun, chunk, start, end);

@@ -9,3 +9,4 @@ pub mod Parts
 pub mod Filling
 pub mod Spread
 pub mod Less
+pub mod Before

@@ -1,3 +1,4 @@
 pub mod Select
 pub mod Least
 pub mod Rise
+pub mod Before

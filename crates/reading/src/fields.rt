@@ -1,10 +1,9 @@
 // The fields of a line: bytes parted by commas.
 ghost use mathlib.Core.Path.{_≡_};
-ghost use Prim.Native.Nat.{_+_, _≤_};
+ghost use Prim.Native.Nat.{_≤_};
 ghost use lib.ListN.{length, drop};
 ghost use Rattle.lines.specs.Bytes.{fields};
 ghost use Rattle.lines.specs.Reading.{field};
-ghost use Rattle.reading.specs.Inner.Parts.{to-comma};
 
 const COMMA: u8 = b',';
 
@@ -41,26 +40,11 @@ fn field_start(line: &[u8], n: usize) -> usize
     at
 }
 
-// Where the field ends that starts here: at the next comma, or at the end of the line.
-fn field_end(line: &[u8], start: usize) -> usize
-    requires { ⌜ start ≤ length (now line) ⌝ }
-    ensures { λ r. ⌜ r ≡ start + to-comma (drop start (now (line .entry))) ⌝ }
-{
-    let mut at = start;
-    while at < line.len() {
-        if line[at] == COMMA {
-            return at;
-        }
-        at += 1;
-    }
-    at
-}
-
 // The n-th field of a line, from 0. A line with fewer fields gives no bytes.
 pub(crate) fn nth_field(line: &[u8], n: usize) -> &[u8]
     ensures { λ r. ⌜ now r ≡ field n (now (line .entry)) ⌝ }
 {
     let start = field_start(line, n);
-    let end = field_end(line, start);
+    let end = lists::next_byte(line, start, COMMA);
     &line[start..end]
 }

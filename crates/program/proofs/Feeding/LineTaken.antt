@@ -6,16 +6,18 @@ use Prim.Native.Nat.{ℕ, suc, _+_, _≤_, _<_, min}
 use native.Mathlib.Numerals.{add-one}
 use native.Mathlib.Omega.{arith}
 use borrow.Author.Tests.{ltb-true, ltb-false}
-use lib.ListN.{length}
+use lib.ListN.{length, getD}
 use Rattle.lines.specs.Bytes.{Bytes, line-end}
 use Rattle.lines.specs.Session.{Session, step}
 use Rattle.lines.specs.Output.{printed-answer}
 use Rattle.lines.specs.Machine.{partial-room, after-bytes, printed-along}
+use Rattle.lines.proofs.Cutting.{one-line}
 use Rattle.printing.specs.Lines.{put}
 use Rattle.printing.proofs.Puts.{put-none}
 use Rattle.cutting.specs.declared.Partial.{Partial}
 use Rattle.cutting.specs.declared.Cut.{Cut}
-use Rattle.cutting.specs.Cut.{partial-bytes, part, LineEnds, extend-all, CutFrom}
+use Rattle.cutting.specs.Cut.{partial-bytes, part, extend-all, line-end-from, CutFrom}
+use Rattle.cutting.proofs.Ends.{end-forward, end-inside, end-first, end-found}
 use Rattle.cutting.proofs.Parts.{part-last}
 use Rattle.answers.specs.Printed.{answer-room}
 use Rattle.program.specs.declared.session.DayAfter.{DayAfter}
@@ -23,6 +25,13 @@ use Rattle.program.specs.declared.feed.State.{State}
 use Rattle.program.specs.Inner.Days.{session-of, GoodDay, Answered}
 use Rattle.program.specs.Inner.Machines.{machine-of, TakenIn}
 use Rattle.program.proofs.Feeding.Along.{part-after, part-printed, line-after, line-printed}
+
+-- the line that goes on at `from` ends at `to`
+record LineEnds (chunk : Bytes) (from to : ℕ) : Type 0 where
+  pub forward : from ≤ to
+  pub inside : to ≤ length chunk
+  pub first : one-line (part chunk from to) ≡ true
+  pub found : to < length chunk → getD chunk to 0 ≡ line-end
 
 module _
     (k : State) (s : Bytes) (from to : ℕ) (out : Bytes) (at : ℕ) (l : LineEnds s from to)
@@ -33,7 +42,7 @@ module _
     unfolding machine-of answer-room
     taken-part g n f =
         let p : printed-along (machine-of k) (part s from to) ≡ [] =
-        part-printed (session-of (k .day)) (k .number) (partial-bytes (k .partial)) (part s from to) (l .one-line)
+        part-printed (session-of (k .day)) (k .number) (partial-bytes (k .partial)) (part s from to) (l .first)
         in
         record {
           good = g;
@@ -42,7 +51,7 @@ module _
           inside = l .inside;
           number = omega (arith, l .forward);
           machine = ap (λ (x : Bytes). record { session = session-of (k .day); number = k .number; partial = x }) e
-              ∙ sym (part-after (session-of (k .day)) (k .number) (partial-bytes (k .partial)) (part s from to) (l .one-line));
+              ∙ sym (part-after (session-of (k .day)) (k .number) (partial-bytes (k .partial)) (part s from to) (l .first));
           end = rw p (omega arith);
           few = omega (arith, l .forward);
           fits = f;
@@ -52,13 +61,13 @@ module _
     -- its end is in the chunk, and it is answered
     module _ (m : to < length s) (r : DayAfter) (out' : Bytes) (a : Answered (k .day) (k .number) (partial-bytes h) out at r out') where
       used-line : part s from (to + 1) ≡ part s from to ++ (line-end ∷ [])
-      used-line = rw add-one (part-last s from to (l .forward) m) ∙ ap (λ (b : ℕ). part s from to ++ (b ∷ [])) (l .ended m)
+      used-line = rw add-one (part-last s from to (l .forward) m) ∙ ap (λ (b : ℕ). part s from to ++ (b ∷ [])) (l .found m)
 
       printed-line : printed-along (machine-of k) (part s from (to + 1)) ≡ printed-answer (k .number) (step (session-of (k .day)) (partial-bytes h) .answer)
       unfolding machine-of
       printed-line =
           ap (printed-along (machine-of k)) used-line
-          ∙ line-printed (session-of (k .day)) (k .number) (partial-bytes (k .partial)) (part s from to) (l .one-line)
+          ∙ line-printed (session-of (k .day)) (k .number) (partial-bytes (k .partial)) (part s from to) (l .first)
           ∙ ap (λ (x : Bytes). printed-answer (k .number) (step (session-of (k .day)) x .answer)) (sym e)
 
       taken-line : (bytes : Bytes) → at + answer-room ≤ length out
@@ -75,7 +84,7 @@ module _
                 (λ (x : Session) (n : ℕ). record { session = x; number = n; partial = [] })
                 (a .session ∙ ap (λ (x : Bytes). step (session-of (k .day)) x .session) e)
                 (add-one (k .number))
-                ∙ sym (line-after (session-of (k .day)) (k .number) (partial-bytes (k .partial)) (part s from to) (l .one-line))
+                ∙ sym (line-after (session-of (k .day)) (k .number) (partial-bytes (k .partial)) (part s from to) (l .first))
                 ∙ ap (after-bytes (machine-of k)) (sym used-line);
             end = a .end ∙ ap (λ (x : Bytes). at + length x) (sym printed-line);
             few = omega (arith, l .forward, a .within);
@@ -88,29 +97,35 @@ module _ (k : State) (s : Bytes) (from : ℕ) (out : Bytes) (at : ℕ) {r : Cut}
   cut : CutFrom (k .partial) s from r
   cut = let e : min from (length s) ≡ from = omega arith in subst (λ (n : ℕ). CutFrom (k .partial) s n r) e c
 
+  abbrev to : ℕ
+  to = line-end-from s from
+
+  ends : LineEnds s from to
+  ends = record { forward = end-forward s from inside; inside = end-inside s from inside; first = end-first s from inside; found = end-found s from inside }
+
   -- its end is not in the chunk
   pub cut-part : r .ended ≡ false → GoodDay (k .day) → at ≤ length out
       → TakenIn k s from out at (record { state = record { day = k .day; number = k .number; partial = r .partial }; used = r .used; at = at }) out
   cut-part h g f =
-      let e : r .used ≡ cut .to = cut .used ∙ ap (λ b. cond b (suc (cut .to)) (cut .to)) h in
+      let e : r .used ≡ to = cut .used ∙ ap (λ b. cond b (suc to) to) h in
       subst (λ (n : ℕ). TakenIn k s from out at (record { state = record { day = k .day; number = k .number; partial = r .partial }; used = n; at = at }) out) (sym e)
-      (taken-part k s from (cut .to) out at (cut .ends) (r .partial) (cut .line) g (cut .few) f)
+      (taken-part k s from to out at ends (r .partial) (cut .line) g (cut .few) f)
 
   -- and then the chunk is used to its end
   pub cut-all : r .ended ≡ false → r .used ≡ length s
   cut-all h =
-      let e : r .used ≡ cut .to = cut .used ∙ ap (λ b. cond b (suc (cut .to)) (cut .to)) h in
-      omega (arith, e, cut .ends .inside, ltb-false (cut .to) (length s) (sym (cut .ended) ∙ h))
+      let e : r .used ≡ to = cut .used ∙ ap (λ b. cond b (suc to) to) h in
+      omega (arith, e, ends .inside, ltb-false to (length s) (sym (cut .ended) ∙ h))
 
   module _ (h : r .ended ≡ true) where
-    ended-in : cut .to < length s
-    ended-in = ltb-true (cut .to) (length s) (sym (cut .ended) ∙ h)
+    ended-in : to < length s
+    ended-in = ltb-true to (length s) (sym (cut .ended) ∙ h)
 
-    used-end : r .used ≡ cut .to + 1
-    used-end = cut .used ∙ ap (λ b. cond b (suc (cut .to)) (cut .to)) h ∙ sym (add-one (cut .to))
+    used-end : r .used ≡ to + 1
+    used-end = cut .used ∙ ap (λ b. cond b (suc to) to) h ∙ sym (add-one to)
 
     pub further : from < r .used
-    further = omega (arith, used-end, cut .ends .forward)
+    further = omega (arith, used-end, ends .forward)
 
     pub used-inside : r .used ≤ length s
     used-inside = omega (arith, used-end, ended-in)
@@ -121,4 +136,4 @@ module _ (k : State) (s : Bytes) (from : ℕ) (out : Bytes) (at : ℕ) {r : Cut}
     cut-line a out' g bytes f =
         subst (λ (n : ℕ). TakenIn k s from out at (record { state = record { day = a .day; number = k .number + 1; partial = record { bytes = bytes; len = 0 } }; used = n; at = a .at }) out')
         (sym used-end)
-        (taken-line k s from (cut .to) out at (cut .ends) (r .partial) (cut .line) ended-in a out' g bytes f)
+        (taken-line k s from to out at ends (r .partial) (cut .line) ended-in a out' g bytes f)

@@ -1,11 +1,10 @@
 -- What the parts of the reader answer. Only promises inside this crate cite these; that of the whole is in Answers.
-use mathlib.Core.Bool.{Bool, not, cond}
+use mathlib.Core.Bool.{Bool, not}
 use mathlib.Core.List.{List, [], _∷_}
 use mathlib.Core.Option.{Option, none, some}
-use Prim.Native.Nat.{ℕ, suc}
-use lib.Dec.{eqb}
+use Prim.Native.Nat.{ℕ}
 use Rattle.board.specs.Rows.{Row, _if_, first-given}
-use Rattle.lines.specs.Bytes.{Bytes, comma}
+use Rattle.lines.specs.Bytes.{Bytes}
 use Rattle.lines.specs.Fields.{Kind, readable-as, value-as}
 use Rattle.lines.specs.Reading.{Request, Asks, Form, forms, form-in, fields-wanted, readable, with-values, request-by}
 use Rattle.reading.specs.declared.Letter.{Letter}
@@ -13,11 +12,6 @@ use Rattle.reading.specs.declared.Letter.the-variants.{Is, Other}
 use Rattle.reading.specs.declared.numbers.Field.{Field}
 use Rattle.reading.specs.declared.numbers.Field.the-variants.{Number, Bad}
 use Rattle.reading.specs.Answers.{Result, result}
-
--- how many bytes stand before the first comma
-unfoldable pub to-comma : Bytes → ℕ
-to-comma [] = 0
-to-comma (b ∷ bs) = cond (eqb b comma) 0 (suc (to-comma bs))
 
 -- the values, unless this row is given
 unfoldable pub unless : {A : Type 0} → Row → A → Result A

@@ -4,16 +4,18 @@ use mathlib.Core.Path.{_≡_, ap, _∙_}
 use native.Mathlib.Omega.{arith}
 use borrow.Author.Needs.{needs}
 use lib.ListN.{take, drop, length-drop}
-use Rattle.reading.specs.Inner.Parts.{to-comma}
-use Rattle.reading.proofs.Commas.{first-field, to-comma-within}
+use Rattle.lists.specs.Before.{before}
+use Rattle.lists.proofs.Before.{before-within}
+use Rattle.lines.specs.Bytes.{comma}
+use Rattle.reading.proofs.Commas.{first-field}
 use Rattle.reading.proofs.fields.nth_field.Statement.{statement}
 use Rattle.reading.proofs.fields.nth_field.Tie as tie
 
 field-start-requires : tie.Need-field-start-requires
 field-start-requires c κs = search needs
 
-field-end-requires : tie.Need-field-end-requires
-field-end-requires c κs = search needs
+next-byte-requires : tie.Need-next-byte-requires
+next-byte-requires c κs = search needs
 
 sub-result : tie.Need-sub-result
 sub-result c = search needs
@@ -22,16 +24,18 @@ part-result-start : tie.Need-part-result-start
 part-result-start c = search needs
 
 part-result-end : tie.Need-part-result-end
+unfolding comma
 part-result-end c =
     let r = c .before .field-start .result in
     let line = c .before .before .before .args .line .now in
-    omega (arith, to-comma-within (drop r line), length-drop r line)
+    omega (arith, before-within comma (drop r line), length-drop r line)
 
 returns : tie.Need-returns
+unfolding comma
 returns c =
     let r = c .before .before .field-start .result in
     let line = c .before .before .before .before .args .line .now in
-    let n : c .before .field-end .result - r ≡ to-comma (drop r line) = omega arith in
+    let n : c .before .next-byte .result - r ≡ before comma (drop r line) = omega arith in
     ap (λ (k : ℕ). take k (drop r line)) n ∙ first-field (drop r line) ∙ c .before .before .field-start .ensures .1
 
 pub nth-field-spec : {M : Type 1} → statement M
@@ -39,7 +43,7 @@ nth-field-spec =
     tie.close
     (tie.spec
     field-start-requires
-    field-end-requires
+    next-byte-requires
     sub-result
     part-result-start
     part-result-end
