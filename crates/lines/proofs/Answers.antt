@@ -7,9 +7,9 @@ use native.Mathlib.Omega.{arith}
 use lib.Dec.{eqb}
 use lib.ListN.{length, length-append}
 use Rattle.lines.specs.Bytes.{Bytes, line-end}
-use Rattle.lines.specs.Session.{Answer, step}
+use Rattle.lines.specs.Session.{Answer, after}
 use Rattle.lines.specs.Output.{printed-answer, printed-answers}
-use Rattle.lines.specs.Machine.{Machine, extend, answered-by, after-byte, after-bytes, answers-along, printed-along}
+use Rattle.lines.specs.Machine.{Machine, extend, line-step, answered-by, after-byte, after-bytes, answers-along, printed-along}
 
 pub after-append : (m : Machine) (a b : Bytes) → after-bytes m (a ++ b) ≡ after-bytes (after-bytes m a) b
 unfolding after-bytes
@@ -30,10 +30,10 @@ number-after-byte m b = go (eqb b line-end)
   where
     go : (e : Bool) →
         cond {A = Machine} e
-        (record { session = step (m .session) (m .partial) .session; number = suc (m .number); partial = [] })
+        (record { session = after (m .session) (line-step m); number = suc (m .number); partial = [] })
         (record { session = m .session; number = m .number; partial = extend b (m .partial) })
         .number
-        ≡ m .number + length (cond e (step (m .session) (m .partial) .answer ∷ []) [])
+        ≡ m .number + length (cond e (line-step m .answer ∷ []) [])
     go true = omega arith
     go false = omega arith
 

@@ -3,33 +3,35 @@ use mathlib.Core.Path.{_≡_, sym, ap, _∙_}
 use mathlib.Core.Bool.{Bool}
 use mathlib.Core.Logic.{_⊎_, inl, inr}
 use mathlib.Core.List.{[], _∷_, _++_}
+use mathlib.Core.Option.{Option}
 use Prim.Native.Nat.{ℕ, _≤_, _<_}
 use native.Mathlib.Omega.{arith}
 use lib.ListN.{length, take, length-take, length-append}
 use lib.Seq.{take-all, take-append-le}
 use borrow.Author.Tests.{lt-ltb, le-ltb}
+use Rattle.board.specs.declared.Board.{Board}
 use Rattle.board.specs.Rows.{_if_, first-given}
 use Rattle.lists.proofs.Tests.{cmp, cond-true}
 use Rattle.lines.specs.Bytes.{Bytes}
 use Rattle.lines.specs.Reading.{longest-line, too-long, line-rows, line-number}
-use Rattle.lines.specs.Session.{Session, is-open, step, step-if}
+use Rattle.lines.specs.Session.{is-open, step, step-if}
 use Rattle.lines.specs.Machine.{extend, partial-room}
 
 pub eleven : (opened : Bool) (l : Bytes) → longest-line < length l → line-number opened l ≡ 11
 unfolding line-number line-rows too-long first-given _if_
 eleven opened l h = cond-true (too-long l) 11 _ (lt-ltb longest-line (length l) h)
 
-refused-long : (s : Session) (l : Bytes) → longest-line < length l → step s l ≡ step-if 11 s []
+refused-long : (o : Option Board) (l : Bytes) → longest-line < length l → step o l ≡ step-if 11 o []
 unfolding step step-if
-refused-long s l h = ap (λ n. step-if n s l) (eleven (is-open (s .board)) l h)
+refused-long o l h = ap (λ n. step-if n o l) (eleven (is-open o) l h)
 
-pub step-first : (s : Session) (l : Bytes) → step s (take partial-room l) ≡ step s l
+pub step-first : (o : Option Board) (l : Bytes) → step o (take partial-room l) ≡ step o l
 unfolding partial-room
-step-first s l = go (cmp (length l) partial-room)
+step-first o l = go (cmp (length l) partial-room)
   where
-    go : (length l ≤ partial-room) ⊎ (partial-room < length l) → step s (take partial-room l) ≡ step s l
-    go (inl h) = ap (step s) (take-all partial-room l h)
-    go (inr h) = refused-long s (take partial-room l) (omega (arith, length-take partial-room l)) ∙ sym (refused-long s l (omega arith))
+    go : (length l ≤ partial-room) ⊎ (partial-room < length l) → step o (take partial-room l) ≡ step o l
+    go (inl h) = ap (step o) (take-all partial-room l h)
+    go (inr h) = refused-long o (take partial-room l) (omega (arith, length-take partial-room l)) ∙ sym (refused-long o l (omega arith))
 
 -- a line takes a further byte up to the first that makes it too long
 pub extend-room : (b : ℕ) (l : Bytes) → length l ≤ longest-line → extend b l ≡ l ++ (b ∷ [])

@@ -5,8 +5,8 @@ use mathlib.Core.List.{List, [], _∷_}
 use Rattle.lists.specs.Select.{every}
 use Rattle.lists.proofs.Members.{every-append}
 use Rattle.lines.specs.Bytes.{Bytes, lines}
-use Rattle.lines.specs.Session.{Session, new-session, step}
-use Rattle.lines.specs.NeverMet.{line-numbers, numbers-from, NeverMet}
+use Rattle.lines.specs.Session.{Session, new-session, step, after}
+use Rattle.lines.specs.NeverMet.{step-numbers, numbers-from, NeverMet}
 use Rattle.lines.proofs.NeverMet.Between.{InRun}
 use Rattle.lines.proofs.NeverMet.MayMeet.{may-meet}
 use Rattle.lines.proofs.NeverMet.Lines.{goes-line}
@@ -16,12 +16,12 @@ pub mod Calls
 pub mod Lines
 
 along : (s : Session) (ls : List Bytes) → InRun (s .board) (s .tally) → every may-meet (numbers-from s ls) ≡ true
-unfolding numbers-from every
+unfolding numbers-from every after
 along s [] h = refl
 along s (l ∷ ls) h =
-    let line = goes-line s h l in
-    let next = step s l .session in
-    every-append may-meet (line-numbers s l) (numbers-from next ls) (line .met) (along next ls (line .after))
+    let line = goes-line (s .board) (s .tally) h l in
+    let a = step (s .board) l in
+    every-append may-meet (step-numbers (s .tally) a) (numbers-from (after s a) ls) (line .met) (along (after s a) ls (line .after))
 
 pub never-met : NeverMet
 unfolding NeverMet InRun new-session

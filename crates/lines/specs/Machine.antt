@@ -8,7 +8,7 @@ use lib.Dec.{eqb}
 use lib.ListN.{length}
 use Rattle.lines.specs.Bytes.{Bytes, line-end}
 use Rattle.lines.specs.Reading.{longest-line, too-long}
-use Rattle.lines.specs.Session.{Session, new-session, Answer, step, run}
+use Rattle.lines.specs.Session.{Session, new-session, Answer, Step, step, after, run}
 use Rattle.lines.specs.Output.{printed-answers, at-end, output}
 
 -- the session, the number of the line that is being read, and its bytes so far
@@ -28,14 +28,18 @@ extend b l = cond (too-long l) l (l ++ (b ∷ []))
 unfoldable pub partial-room : ℕ
 partial-room = suc longest-line
 
+-- what the line so far does where it ends
+unfoldable pub line-step : Machine → Step
+line-step m = step (m .session .board) (m .partial)
+
 -- a byte ends a line, which is answered, or none
 unfoldable pub answered-by : Machine → ℕ → List Answer
-answered-by m b = cond (eqb b line-end) (step (m .session) (m .partial) .answer ∷ []) []
+answered-by m b = cond (eqb b line-end) (line-step m .answer ∷ []) []
 
 unfoldable pub after-byte : Machine → ℕ → Machine
 after-byte m b =
     cond (eqb b line-end)
-    (record { session = step (m .session) (m .partial) .session; number = suc (m .number); partial = [] })
+    (record { session = after (m .session) (line-step m); number = suc (m .number); partial = [] })
     (record { session = m .session; number = m .number; partial = extend b (m .partial) })
 
 -- bytes one after the other
@@ -49,10 +53,10 @@ answers-along m (b ∷ bs) = answered-by m b ++ answers-along (after-byte m b) b
 
 -- the end of input ends a line that has begun
 unfoldable pub last-answers : Machine → List Answer
-last-answers m = cond (eqb (length (m .partial)) 0) [] (step (m .session) (m .partial) .answer ∷ [])
+last-answers m = cond (eqb (length (m .partial)) 0) [] (line-step m .answer ∷ [])
 
 unfoldable pub last-session : Machine → Session
-last-session m = cond (eqb (length (m .partial)) 0) (m .session) (step (m .session) (m .partial) .session)
+last-session m = cond (eqb (length (m .partial)) 0) (m .session) (after (m .session) (line-step m))
 
 -- what the program prints along bytes, and at the end of input
 unfoldable pub printed-along : Machine → Bytes → Bytes

@@ -1,38 +1,30 @@
 -- 'The program never meets 2, 8, 9 or 10; they guard the calls.'
 use mathlib.Core.Path.{_≡_}
-use mathlib.Core.Bool.{true, not, cond, _||_}
+use mathlib.Core.Bool.{true, not, _||_}
 use mathlib.Core.List.{List, [], _∷_, _++_}
-use mathlib.Core.Option.{Option, none, some}
 use Prim.Native.Nat.{ℕ}
 use lib.Dec.{eqb}
 use Rattle.lists.specs.Select.{every}
-use Rattle.board.specs.declared.Board.{Board}
 use Rattle.board.specs.declared.Tally.{Tally}
-use Rattle.board.specs.Limits.{places-held}
-use Rattle.board.specs.Open.{opened}
-use Rattle.board.specs.Admit.{admitted}
-use Rattle.board.specs.Close.{closed}
-use Rattle.board.specs.Events.{admit-events, close-events, event-numbers}
+use Rattle.board.specs.Events.{event-numbers}
 use Rattle.lines.specs.Bytes.{Bytes, lines}
-use Rattle.lines.specs.Reading.{line-number, Request, open-board, admit-job, close-slot, request}
-use Rattle.lines.specs.Session.{Session, new-session, is-open, step}
+use Rattle.lines.specs.Session.{Session, new-session, Answer, a-refusal, an-opening, an-admitting, a-closing, Step, step, after}
 
--- the numbers that the calls of a request give: the board's, and then the tally's for each event
-unfoldable pub request-numbers : Option Board → Tally → Request → List ℕ
-request-numbers o y (open-board d) = opened d .refusal ∷ []
-request-numbers none y (admit-job t w g) = []
-request-numbers (some b) y (admit-job t w g) = admitted b t w g .refusal ∷ event-numbers y (admit-events b t w g)
-request-numbers none y close-slot = []
-request-numbers (some b) y close-slot = closed b places-held .refusal ∷ event-numbers y (close-events b places-held)
+-- the number of a refusal, 0 for any other answer
+unfoldable pub number-of : Answer → ℕ
+number-of (a-refusal n) = n
+number-of (an-opening d) = 0
+number-of (an-admitting t k) = 0
+number-of (a-closing c) = 0
 
--- those of a line: none where rows 11 to 15 refuse it
-unfoldable pub line-numbers : Session → Bytes → List ℕ
-line-numbers s l = cond (eqb (line-number (is-open (s .board)) l) 0) (request-numbers (s .board) (s .tally) (request l)) []
+-- the numbers that are met at a step: its answer's, and then the tally's for each event
+unfoldable pub step-numbers : Tally → Step → List ℕ
+step-numbers y a = number-of (a .answer) ∷ event-numbers y (a .events)
 
 -- those of all lines, one after the other
 unfoldable pub numbers-from : Session → List Bytes → List ℕ
 numbers-from s [] = []
-numbers-from s (l ∷ ls) = line-numbers s l ++ numbers-from (step s l .session) ls
+numbers-from s (l ∷ ls) = let a = step (s .board) l in step-numbers (s .tally) a ++ numbers-from (after s a) ls
 
 -- none of them is 2, 8, 9 or 10
 unfoldable pub NeverMet : Type 0

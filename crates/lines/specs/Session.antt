@@ -12,7 +12,7 @@ use Rattle.board.specs.Open.{opened}
 use Rattle.board.specs.Admit.{admitted}
 use Rattle.board.specs.Close.{closed, given-up}
 use Rattle.board.specs.Tally.{zero-tally}
-use Rattle.board.specs.Events.{admit-events, close-events, fed}
+use Rattle.board.specs.Events.{Event, admit-events, close-events, fed}
 use Rattle.board.specs.Held.{slot-of}
 use Rattle.lines.specs.Bytes.{Bytes, lines}
 use Rattle.lines.specs.Reading.{line-number, Request, open-board, admit-job, close-slot, request}
@@ -50,60 +50,64 @@ pub data Answer : Type 0 where
   an-admitting : (ticket last : ℕ) → Answer
   a-closing : Closing → Answer
 
--- what a line does: its answer, and the session after it
+-- what a line does: its answer, the board after it, and the tally's events
 pub record Step : Type 0 where
   pub answer : Answer
-  pub session : Session
+  pub board : Option Board
+  pub events : List Event
 
--- a line that is refused leaves the session as it was
-unfoldable pub step-refused : Session → (number : ℕ) → Step
-step-refused s n = record { answer = a-refusal n; session = s }
+-- a line that is refused leaves the board as it was, and has no event
+unfoldable pub step-refused : Option Board → (number : ℕ) → Step
+step-refused o n = record { answer = a-refusal n; board = o; events = [] }
 
 -- '`D,depth` opens'
-unfoldable pub step-open : Session → (depth : ℕ) → Step
-step-open s d =
+unfoldable pub step-open : Option Board → (depth : ℕ) → Step
+step-open o d =
     let r = opened d in
-    cond (eqb (r .refusal) 0)
-    (record { answer = an-opening d; session = record { board = some (r .board); tally = s .tally } })
-    (step-refused s (r .refusal))
+    cond (eqb (r .refusal) 0) (record { answer = an-opening d; board = some (r .board); events = [] }) (step-refused o (r .refusal))
 
 -- '`A,ticket,wait,grade` admits'
-unfoldable pub step-admit : Session → Board → (ticket laxity grade : ℕ) → Step
-step-admit s b t w g =
+unfoldable pub step-admit : Board → (ticket laxity grade : ℕ) → Step
+step-admit b t w g =
     let r = admitted b t w g in
     cond (eqb (r .refusal) 0)
-    (record { answer = an-admitting t (r .last .0); session = record { board = some (r .board); tally = fed (s .tally) (admit-events b t w g) } })
-    (step-refused s (r .refusal))
+    (record { answer = an-admitting t (r .last .0); board = some (r .board); events = admit-events b t w g })
+    (step-refused (some b) (r .refusal))
 
 -- '`B` closes the slot'
-unfoldable pub step-close : Session → Board → Step
-step-close s b =
+unfoldable pub step-close : Board → Step
+step-close b =
     let r = closed b places-held in
     cond (eqb (r .refusal) 0)
     (record {
       answer = a-closing (record { slot = slot-of b; baked = record { ticket = r .ticket; grade = r .grade }; given-up = map named (given-up b) });
-      session = record { board = some (r .board); tally = fed (s .tally) (close-events b places-held) };
+      board = some (r .board);
+      events = close-events b places-held;
     })
-    (step-refused s (r .refusal))
+    (step-refused (some b) (r .refusal))
 
 -- A step on the board that is open. While none is, row 15 refuses every line that is for an open one (proofs/InTurn): the first case is never used.
-unfoldable pub when-open : Session → Option Board → (Board → Step) → Step
-when-open s none f = step-refused s 0
-when-open s (some b) f = f b
+unfoldable pub when-open : Option Board → (Board → Step) → Step
+when-open none f = step-refused none 0
+when-open (some b) f = f b
 
 -- a request that rows 11 to 15 let through
-unfoldable pub step-request : Session → Option Board → Request → Step
-step-request s o (open-board d) = step-open s d
-step-request s o (admit-job t w g) = when-open s o (λ b. step-admit s b t w g)
-step-request s o close-slot = when-open s o (λ b. step-close s b)
+unfoldable pub step-request : Option Board → Request → Step
+step-request o (open-board d) = step-open o d
+step-request o (admit-job t w g) = when-open o (λ b. step-admit b t w g)
+step-request o close-slot = when-open o step-close
 
 -- 'the line rows, 11 to 15, come before those of the call that the line makes'
-unfoldable pub step-if : ℕ → Session → Bytes → Step
-step-if zero s l = step-request s (s .board) (request l)
-step-if (suc n) s l = step-refused s (suc n)
+unfoldable pub step-if : ℕ → Option Board → Bytes → Step
+step-if zero o l = step-request o (request l)
+step-if (suc n) o l = step-refused o (suc n)
 
-unfoldable pub step : Session → Bytes → Step
-step s l = step-if (line-number (is-open (s .board)) l) s l
+unfoldable pub step : Option Board → Bytes → Step
+step o l = step-if (line-number (is-open o) l) o l
+
+-- the session after a step: the tally is fed its events
+unfoldable pub after : Session → Step → Session
+after s a = record { board = a .board; tally = fed (s .tally) (a .events) }
 
 -- a run: the answers to all lines, and the session after the last
 pub record Run : Type 0 where
@@ -114,8 +118,8 @@ pub record Run : Type 0 where
 unfoldable pub run-from : Session → List Bytes → Run
 run-from s [] = record { answers = []; session = s }
 run-from s (l ∷ ls) =
-    let a = step s l in
-    let r = run-from (a .session) ls in
+    let a = step (s .board) l in
+    let r = run-from (after s a) ls in
     record { answers = a .answer ∷ r .answers; session = r .session }
 
 -- the run of an input

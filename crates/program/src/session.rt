@@ -38,7 +38,7 @@ pub struct DayAfter {
 // A line that is refused: the day is as it was.
 fn refuse(day: Day, number: u8) -> Stepped
     requires { ⌜ GoodDay day ⌝ }
-    ensures { λ r. ⌜ DidAlone (step-refused (session-of day) number) r ⌝ }
+    ensures { λ r. ⌜ DidAlone day (step-refused (session-of day .board) number) r ⌝ }
 {
     let answer = Answer::Refused(number);
     Stepped {
@@ -51,7 +51,7 @@ fn refuse(day: Day, number: u8) -> Stepped
 // A line that opens.
 fn open_line(day: Day, depth: u32) -> Stepped
     requires { ⌜ GoodDay day ⌝ }
-    ensures { λ r. ⌜ DidAlone (step-open (session-of day) depth) r ⌝ }
+    ensures { λ r. ⌜ DidAlone day (step-open (session-of day .board) depth) r ⌝ }
 {
     let o = Board::open(depth);
     if o.refusal != 0 {
@@ -76,7 +76,7 @@ fn open_line(day: Day, depth: u32) -> Stepped
 fn admit_line(day: Day, ticket: u32, laxity: Laxity, grade: u32) -> Stepped
     requires { ⌜ GoodDay day ⌝ }
     requires { ⌜ day .opened ≡ true ⌝ }
-    ensures { λ r. ⌜ DidAlone (step-admit (session-of day) (day .board) ticket (laxity .0) grade) r ⌝ }
+    ensures { λ r. ⌜ DidAlone day (step-admit (day .board) ticket (laxity .0) grade) r ⌝ }
 {
     let b = day.board;
     let a = admit::admit_in_limits(b, ticket, laxity, grade);
@@ -105,7 +105,7 @@ fn close_line(day: Day, tickets: &mut [u32], grades: &mut [u8], slots: &mut [u32
     requires { ⌜ GoodDay day ⌝ }
     requires { ⌜ day .opened ≡ true ⌝ }
     requires { ⌜ (length (now tickets) ≡ places-held) × (length (now grades) ≡ places-held) × (length (now slots) ≡ places-held) ⌝ }
-    ensures { λ r. ⌜ Did (step-close (session-of day) (day .board)) r (now (tickets .exit)) (now (grades .exit)) ⌝ }
+    ensures { λ r. ⌜ Did day (step-close (day .board)) r (now (tickets .exit)) (now (grades .exit)) ⌝ }
 {
     let b = day.board;
     let c = close::close_in_limits(b, tickets, grades, slots);
@@ -141,7 +141,7 @@ fn step_line(
 ) -> Stepped
     requires { ⌜ GoodDay day ⌝ }
     requires { ⌜ (length (now tickets) ≡ places-held) × (length (now grades) ≡ places-held) × (length (now slots) ≡ places-held) ⌝ }
-    ensures { λ r. ⌜ Did (step (session-of day) (now (line .entry))) r (now (tickets .exit)) (now (grades .exit)) ⌝ }
+    ensures { λ r. ⌜ Did day (step (session-of day .board) (now (line .entry))) r (now (tickets .exit)) (now (grades .exit)) ⌝ }
 {
     let asked = reading::read_line(line, day.opened);
     match asked {

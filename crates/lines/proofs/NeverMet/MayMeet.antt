@@ -3,6 +3,7 @@ use mathlib.Core.Path.{_≡_, refl, sym, ap, _∙_}
 use mathlib.Core.Bool.{Bool, true, false, not, cond, _||_}
 use mathlib.Core.Logic.{inl, inr}
 use mathlib.Core.List.{List, [], _∷_}
+use mathlib.Core.Option.{Option, none, some}
 use Prim.Native.Nat.{ℕ, zero, suc, _≤_}
 use lib.Dec.{ltb, eqb}
 use borrow.Author.Tests.{ltb-false}
@@ -18,6 +19,8 @@ use Rattle.board.specs.Admit.{admit-number, admitted-if, admitted}
 use Rattle.board.specs.Close.{bakes, close-number, closed-with, closed}
 use Rattle.board.proofs.Calls.Rows.{row-passed}
 use Rattle.board.proofs.Calls.SoundAfter.{admit-number-sound, close-number-sound}
+use Rattle.lines.specs.Bytes.{Bytes}
+use Rattle.lines.specs.Reading.{Form, form-of, too-long, form-rows, line-rows, line-number}
 
 -- a number that the program may meet
 abbrev pub may-meet : ℕ → Bool
@@ -82,3 +85,12 @@ unfolding every _if_ close-rows places-held
 may-close b s =
     ap may-meet (closed-number b places-held ∙ close-number-sound b places-held s)
     ∙ may-first (close-rows (slot-of b) places-held) refl
+
+-- rows 11 to 15
+pub may-line : (opened : Bool) (l : Bytes) → may-meet (line-number opened l) ≡ true
+unfolding line-number line-rows form-rows every _if_
+may-line opened l = may-first (line-rows opened l) (go (form-of l))
+  where
+    go : (q : Option Form) → every harmless (11 if too-long l ∷ form-rows q opened l) ≡ true
+    go none = refl
+    go (some r) = refl

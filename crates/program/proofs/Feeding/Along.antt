@@ -8,9 +8,9 @@ use lib.Dec.{eqb}
 use Rattle.lists.specs.Select.{every}
 use Rattle.lists.proofs.Tests.{and-left, and-right, cond-false}
 use Rattle.lines.specs.Bytes.{Bytes, line-end}
-use Rattle.lines.specs.Session.{Session, Answer, step}
+use Rattle.lines.specs.Session.{Session, Answer, step, after}
 use Rattle.lines.specs.Output.{printed-answer, printed-answers}
-use Rattle.lines.specs.Machine.{Machine, extend, answered-by, after-byte, after-bytes, answers-along, printed-along}
+use Rattle.lines.specs.Machine.{Machine, extend, line-step, answered-by, after-byte, after-bytes, answers-along, printed-along}
 use Rattle.lines.proofs.Cutting.{one-line}
 use Rattle.lines.proofs.Answers.{after-append, answers-append}
 use Rattle.cutting.specs.Cut.{extend-all}
@@ -28,12 +28,12 @@ module _ (s : Session) (i : ℕ) where
 
   -- a byte that ends no line
   byte-after : (l : Bytes) (b : ℕ) → eqb b line-end ≡ false → after-byte (reading l) b ≡ reading (extend b l)
-  unfolding after-byte
-  byte-after l b e = cond-false (eqb b line-end) (record { session = step s l .session; number = suc i; partial = [] }) (reading (extend b l)) e
+  unfolding after-byte line-step
+  byte-after l b e = cond-false (eqb b line-end) (record { session = after s (step (s .board) l); number = suc i; partial = [] }) (reading (extend b l)) e
 
   byte-answered : (l : Bytes) (b : ℕ) → eqb b line-end ≡ false → answered-by (reading l) b ≡ []
-  unfolding answered-by
-  byte-answered l b e = cond-false (eqb b line-end) (step s l .answer ∷ []) [] e
+  unfolding answered-by line-step
+  byte-answered l b e = cond-false (eqb b line-end) (step (s .board) l .answer ∷ []) [] e
 
   -- bytes that end no line are kept, and bring no answer
   pub part-after : (l bs : Bytes) → one-line bs ≡ true → after-bytes (reading l) bs ≡ reading (extend-all l bs)
@@ -56,16 +56,16 @@ module _ (s : Session) (i : ℕ) where
 
   -- with a line end behind them, the line is answered
   module _ (l bs : Bytes) (h : one-line bs ≡ true) where
-    pub line-after : after-bytes (reading l) (bs ++ (line-end ∷ [])) ≡ record { session = step s (extend-all l bs) .session; number = suc i; partial = [] }
-    unfolding after-bytes after-byte line-end
+    pub line-after : after-bytes (reading l) (bs ++ (line-end ∷ [])) ≡ record { session = after s (step (s .board) (extend-all l bs)); number = suc i; partial = [] }
+    unfolding after-bytes after-byte line-step line-end
     line-after = after-append (reading l) bs (line-end ∷ []) ∙ ap (λ (m : Machine). after-bytes m (line-end ∷ [])) (part-after l bs h)
 
-    line-answered : answers-along (reading l) (bs ++ (line-end ∷ [])) ≡ step s (extend-all l bs) .answer ∷ []
-    unfolding answers-along answered-by line-end
+    line-answered : answers-along (reading l) (bs ++ (line-end ∷ [])) ≡ step (s .board) (extend-all l bs) .answer ∷ []
+    unfolding answers-along answered-by line-step line-end
     line-answered =
         answers-append (reading l) bs (line-end ∷ [])
         ∙ ap₂ (λ (x : List Answer) (m : Machine). x ++ answers-along m (line-end ∷ [])) (part-answered l bs h) (part-after l bs h)
 
-    pub line-printed : printed-along (reading l) (bs ++ (line-end ∷ [])) ≡ printed-answer i (step s (extend-all l bs) .answer)
+    pub line-printed : printed-along (reading l) (bs ++ (line-end ∷ [])) ≡ printed-answer i (step (s .board) (extend-all l bs) .answer)
     unfolding printed-along printed-answers
-    line-printed = ap (printed-answers i) line-answered ∙ append-nil (printed-answer i (step s (extend-all l bs) .answer))
+    line-printed = ap (printed-answers i) line-answered ∙ append-nil (printed-answer i (step (s .board) (extend-all l bs) .answer))

@@ -8,7 +8,7 @@ use native.Mathlib.Omega.{arith}
 use borrow.Author.Tests.{ltb-true, ltb-false}
 use lib.ListN.{length, getD}
 use Rattle.lines.specs.Bytes.{Bytes, line-end}
-use Rattle.lines.specs.Session.{Session, step}
+use Rattle.lines.specs.Session.{Session, step, after}
 use Rattle.lines.specs.Output.{printed-answer}
 use Rattle.lines.specs.Machine.{partial-room, after-bytes, printed-along}
 use Rattle.lines.proofs.Cutting.{one-line}
@@ -63,12 +63,12 @@ module _
       used-line : part s from (to + 1) ≡ part s from to ++ (line-end ∷ [])
       used-line = rw add-one (part-last s from to (l .forward) m) ∙ ap (λ (b : ℕ). part s from to ++ (b ∷ [])) (l .found m)
 
-      printed-line : printed-along (machine-of k) (part s from (to + 1)) ≡ printed-answer (k .number) (step (session-of (k .day)) (partial-bytes h) .answer)
+      printed-line : printed-along (machine-of k) (part s from (to + 1)) ≡ printed-answer (k .number) (step (session-of (k .day) .board) (partial-bytes h) .answer)
       unfolding machine-of
       printed-line =
           ap (printed-along (machine-of k)) used-line
           ∙ line-printed (session-of (k .day)) (k .number) (partial-bytes (k .partial)) (part s from to) (l .first)
-          ∙ ap (λ (x : Bytes). printed-answer (k .number) (step (session-of (k .day)) x .answer)) (sym e)
+          ∙ ap (λ (x : Bytes). printed-answer (k .number) (step (session-of (k .day) .board) x .answer)) (sym e)
 
       taken-line : (bytes : Bytes) → at + answer-room ≤ length out
           → TakenIn k s from out at (record { state = record { day = r .day; number = k .number + 1; partial = record { bytes = bytes; len = 0 } }; used = to + 1; at = r .at }) out'
@@ -82,7 +82,7 @@ module _
             number = omega (arith, l .forward);
             machine = ap₂
                 (λ (x : Session) (n : ℕ). record { session = x; number = n; partial = [] })
-                (a .session ∙ ap (λ (x : Bytes). step (session-of (k .day)) x .session) e)
+                (a .session ∙ ap (λ (x : Bytes). after (session-of (k .day)) (step (session-of (k .day) .board) x)) e)
                 (add-one (k .number))
                 ∙ sym (line-after (session-of (k .day)) (k .number) (partial-bytes (k .partial)) (part s from to) (l .first))
                 ∙ ap (after-bytes (machine-of k)) (sym used-line);

@@ -2,6 +2,7 @@
 use mathlib.Core.Path.{_≡_, sym, ap, _∙_}
 use mathlib.Core.Bool.{true}
 use mathlib.Core.List.{List, map, map-map}
+use mathlib.Core.Option.{some}
 use Prim.Native.Nat.{ℕ}
 use borrow.Author.Tests.{eq-eqb, ne-eqb}
 use lib.ListN.{take}
@@ -16,30 +17,31 @@ use Rattle.board.specs.Events.{given-up-kind, event, baked-events, given-up-eve
 use Rattle.board.specs.Held.{slot-of}
 use Rattle.board.proofs.Calls.SoundAfter.{closed-sound}
 use Rattle.board.proofs.Tallies.Fed.{let-through, fed-append}
-use Rattle.lines.specs.Session.{Named, named, a-closing, step-refused, step-close}
+use Rattle.lines.specs.Session.{Named, named, a-closing, step-refused, step-close, after}
 use Rattle.answers.specs.declared.Answer.the-variants.{Closed as SlotClosed}
 use Rattle.answers.specs.Printed.{answer-of}
 use Rattle.program.specs.declared.session.Day.{Day}
 use Rattle.program.specs.Inner.Days.{session-of, GoodDay, Did}
-use Rattle.program.proofs.Stepping.Steps.{open-day, open-session, did-as}
+use Rattle.program.proofs.Stepping.Steps.{open-day, open-session, did-as, day-board}
 use Rattle.program.proofs.Stepping.Entries.{Entered, jobs-named}
 
 module _ (day : Day) (c : Closed) (e : c ≡ closed (day .board) places-held) where
-  pub close-refused : (c .refusal ≡ 0 → ⊥) → step-close (session-of day) (day .board) ≡ step-refused (session-of day) (c .refusal)
+  pub close-refused : (c .refusal ≡ 0 → ⊥) → day .opened ≡ true → step-close (day .board) ≡ step-refused (session-of day .board) (c .refusal)
   unfolding step-close
-  close-refused h = rw (← e) (cond-false _ _ _ (ne-eqb (c .refusal) 0 h))
+  close-refused h k = rw (← e) (cond-false _ _ _ (ne-eqb (c .refusal) 0 h)) ∙ ap (λ o. step-refused o (c .refusal)) (sym (day-board day k))
 
   close-step : c .refusal ≡ 0
-      → step-close (session-of day) (day .board)
+      → step-close (day .board)
       ≡ record {
         answer = a-closing (record {
           slot = slot-of (day .board);
           baked = record { ticket = c .ticket; grade = c .grade };
           given-up = map named (given-up (day .board));
         });
-        session = open-session (c .board) (fed (day .tally) (close-events (day .board) places-held));
+        board = some (c .board);
+        events = close-events (day .board) places-held;
       }
-  unfolding step-close session-of
+  unfolding step-close
   close-step h = rw (← e) (cond-true _ _ _ (eq-eqb (c .refusal) 0 h))
 
   all-fed : c .refusal ≡ 0 → (G : List ℕ) → G ≡ map (λ (r : Job). r .grade) (given-up (day .board))
@@ -55,9 +57,9 @@ module _ (day : Day) (c : Closed) (e : c ≡ closed (day .board) places-held) wh
 
   pub close-did : (T G : List ℕ) (y : Tally) → sound (day .board) ≡ true → c .refusal ≡ 0 → (n : Entered (day .board) (c .listed) T G)
       → y ≡ fed (fed (day .tally) (baked-events (c .ticket) (c .grade))) (map (event given-up-kind) (take (c .listed) G))
-      → Did (step-close (session-of day) (day .board))
+      → Did day (step-close (day .board))
       (record { day = open-day (c .board) y; answer = SlotClosed (day .board .slot) (c .ticket) (c .grade); listed = c .listed }) T G
-  unfolding session-of GoodDay answer-of
+  unfolding session-of after GoodDay answer-of
   close-did T G y s h n z =
       did-as (close-step h)
       (record {

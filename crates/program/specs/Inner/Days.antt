@@ -8,7 +8,7 @@ use lib.ListN.{length, take}
 use Rattle.board.specs.Limits.{places-held}
 use Rattle.board.specs.Sound.{sound}
 use Rattle.lines.specs.Bytes.{Bytes}
-use Rattle.lines.specs.Session.{Session, Step, step}
+use Rattle.lines.specs.Session.{Session, Step, step, after}
 use Rattle.lines.specs.Output.{printed-answer}
 use Rattle.printing.specs.Lines.{put}
 use Rattle.answers.specs.Printed.{answer-of, answer-room}
@@ -23,16 +23,16 @@ session-of d = record { board = cond (d .opened) (some (d .board)) none; tally =
 unfoldable pub GoodDay : Day → Type 0
 GoodDay d = d .opened ≡ true → sound (d .board) ≡ true
 
--- a step done: the day after it is the step's session, and its answer has the jobs given up first in two lists
-pub record Did (a : Step) (r : Stepped) (tickets grades : List ℕ) : Type 0 where
+-- a step done on a day: the day after it has the session after the step, and its answer has the jobs given up first in two lists
+pub record Did (day : Day) (a : Step) (r : Stepped) (tickets grades : List ℕ) : Type 0 where
   pub good : GoodDay (r .day)
-  pub session : session-of (r .day) ≡ a .session
+  pub session : session-of (r .day) ≡ after (session-of day) a
   pub few : r .listed ≤ places-held
   pub answer : answer-of (r .answer) (take (r .listed) tickets) (take (r .listed) grades) ≡ a .answer
 
 -- without any such job, whatever the lists hold
-abbrev pub DidAlone : Step → Stepped → Type 0
-DidAlone a r = (tickets grades : List ℕ) → Did a r tickets grades
+abbrev pub DidAlone : Day → Step → Stepped → Type 0
+DidAlone day a r = (tickets grades : List ℕ) → Did day a r tickets grades
 
 -- these bytes printed at `at` in the buffer, no more than an answer has, and the day after them has this session
 pub record Given (bs : Bytes) (s : Session) (out : Bytes) (at : ℕ) (r : DayAfter) (out' : Bytes) : Type 0 where
@@ -45,5 +45,5 @@ pub record Given (bs : Bytes) (s : Session) (out : Bytes) (at : ℕ) (r : DayAft
 -- a line answered: the session is the definition's, and so are the bytes
 abbrev pub Answered : (day : Day) (number : ℕ) (line out : Bytes) (at : ℕ) (r : DayAfter) (out' : Bytes) → Type 0
 Answered day number line out at r out' =
-    let a = step (session-of day) line in
-    Given (printed-answer number (a .answer)) (a .session) out at r out'
+    let a = step (session-of day .board) line in
+    Given (printed-answer number (a .answer)) (after (session-of day) a) out at r out'

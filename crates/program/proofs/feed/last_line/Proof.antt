@@ -6,6 +6,7 @@ use borrow.Author.Needs.{needs}
 use lib.ListN.{length, take}
 use lib.Seq.{length-take-le}
 use Rattle.lines.specs.Bytes.{Bytes}
+use Rattle.lines.specs.Machine.{line-step}
 use Rattle.printing.specs.Lines.{put}
 use Rattle.printing.proofs.Puts.{put-none}
 use Rattle.cutting.specs.Cut.{partial-bytes}
@@ -52,7 +53,7 @@ same-length : tie.Need-same-length
 same-length c = search needs
 
 returns-2 : tie.Need-returns-2
-unfolding machine-of partial-bytes
+unfolding machine-of partial-bytes line-step
 returns-2 c =
     let t = c .before .before .before .before .before .before in
     let s = t .before .before .before .before in

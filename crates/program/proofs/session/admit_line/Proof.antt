@@ -24,7 +24,7 @@ returns : tie.Need-returns
 returns c =
     let t = c .before in
     let o = t .before .before in
-    alone-as (admit-refused _ _ _ _ (o .admit-in-limits .result) (answered o) (t .if1 .taken)) (c .refuse .ensures)
+    alone-as (admit-refused _ _ _ _ (o .admit-in-limits .result) (answered o) (t .if1 .taken) (o .before .before .pre .1)) (c .refuse .ensures)
 
 count-admitted-requires : tie.Need-count-admitted-requires
 count-admitted-requires c κs = search needs

@@ -61,7 +61,7 @@ returns : tie.Need-returns
 returns c =
     let t = c .before in
     let k = t .before .before .before .before .before .before .before .before in
-    did-as (close-refused _ (k .close-in-limits .result) (closed-full k) (t .if1 .taken)) (c .refuse .ensures _ _)
+    did-as (close-refused _ (k .close-in-limits .result) (closed-full k) (t .if1 .taken) (entry k .pre .1 .0)) (c .refuse .ensures _ _)
 
 cast-n : tie.Need-cast-n
 cast-n c = search needs
