@@ -7,7 +7,7 @@ use native.Mathlib.Omega.{arith}
 use lib.Dec.{eqb}
 use lib.ListN.{length, length-append}
 use Rattle.lines.specs.Bytes.{Bytes, line-end}
-use Rattle.lines.specs.Session.{Answer, after}
+use Rattle.lines.specs.Session.{Answer, session-after}
 use Rattle.lines.specs.Output.{printed-answer, printed-answers}
 use Rattle.lines.specs.Machine.{Machine, extend, line-step, answered-by, after-byte, after-bytes, answers-along, printed-along}
 
@@ -30,7 +30,7 @@ number-after-byte m b = go (eqb b line-end)
   where
     go : (e : Bool) →
         cond {A = Machine} e
-        (record { session = after (m .session) (line-step m); number = suc (m .number); partial = [] })
+        (record { session = session-after (m .session) (line-step m); number = suc (m .number); partial = [] })
         (record { session = m .session; number = m .number; partial = extend b (m .partial) })
         .number
         ≡ m .number + length (cond e (line-step m .answer ∷ []) [])

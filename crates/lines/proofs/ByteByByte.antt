@@ -12,7 +12,7 @@ use Rattle.lists.specs.Select.{every}
 use Rattle.lists.proofs.Tests.{test, cond-true, cond-false}
 use Rattle.lists.proofs.Members.{every-append}
 use Rattle.lines.specs.Bytes.{Bytes, line-end, lines}
-use Rattle.lines.specs.Session.{Session, new-session, Answer, Run, step, after, run-from, run}
+use Rattle.lines.specs.Session.{Session, new-session, Answer, Run, step, session-after, run-from, run}
 use Rattle.lines.specs.Output.{printed-answers, at-end, output}
 use Rattle.lines.specs.Machine.{Machine, new-machine, extend, partial-room, line-step, answered-by, after-byte, after-bytes, answers-along, last-answers, last-session, printed-along, printed-at-end, ByteByByte}
 use Rattle.lines.proofs.Cutting.{one-line, lines-ended, lines-last, lines-none}
@@ -38,10 +38,10 @@ at-last s i (c ∷ l) h =
     let partial = take partial-room (c ∷ l) in
     let begun = ne-eqb (length partial) 0 (λ z. omega arith) in
     ap (run-from s) (lines-last c l h)
-    ∙ sym (ap (λ a. record { answers = a .answer ∷ []; session = after s a }) (step-first (s .board) (c ∷ l)))
+    ∙ sym (ap (λ a. record { answers = a .answer ∷ []; session = session-after s a }) (step-first (s .board) (c ∷ l)))
     ∙ sym (ap₂ (λ (x : List Answer) (t : Session). record { answers = x; session = t })
     (cond-false (eqb (length partial) 0) [] (step (s .board) partial .answer ∷ []) begun)
-    (cond-false (eqb (length partial) 0) s (after s (step (s .board) partial)) begun))
+    (cond-false (eqb (length partial) 0) s (session-after s (step (s .board) partial)) begun))
 
 along : (s : Session) (i : ℕ) (l bs : Bytes) → one-line l ≡ true
     → run-from s (lines (l ++ bs)) ≡ onto (answers-along (reading s i l) bs) (ended (after-bytes (reading s i l) bs))
@@ -60,20 +60,20 @@ along s i l (b ∷ bs) h = go (test (eqb b line-end)) (λ s i l h. along s i l b
         → run-from s (lines (l ++ bs)) ≡ onto (answers-along (reading s i l) bs) (ended (after-bytes (reading s i l) bs))) → Goal
     go (inl e) ih =
         let a = step (s .board) l in
-        let n = reading (after s a) (suc i) [] in
+        let n = reading (session-after s a) (suc i) [] in
         let here = step-first (s .board) l in
         let next : after-byte m b ≡ n =
-        cond-true (eqb b line-end) (record { session = after s (step (s .board) (take partial-room l)); number = suc i; partial = [] }) (record { session = s; number = i; partial = extend b (take partial-room l) }) e
-        ∙ ap (λ x. reading (after s x) (suc i) []) here
+        cond-true (eqb b line-end) (record { session = session-after s (step (s .board) (take partial-room l)); number = suc i; partial = [] }) (record { session = s; number = i; partial = extend b (take partial-room l) }) e
+        ∙ ap (λ x. reading (session-after s x) (suc i) []) here
         in
         let said : answered-by m b ≡ a .answer ∷ [] = cond-true (eqb b line-end) (step (s .board) (take partial-room l) .answer ∷ []) [] e ∙ ap (λ x. x .answer ∷ []) here in
         ap (run-from s) (lines-ended l bs b h e)
-        ∙ ap (onto (a .answer ∷ [])) (ih (after s a) (suc i) [] refl)
+        ∙ ap (onto (a .answer ∷ [])) (ih (session-after s a) (suc i) [] refl)
         ∙ ap₂ (λ (x : List Answer) (k : Machine). onto (x ++ answers-along k bs) (ended (after-bytes k bs))) (sym said) (sym next)
     go (inr e) ih =
         let n = reading s i (l ++ (b ∷ [])) in
         let next : after-byte m b ≡ n =
-        cond-false (eqb b line-end) (record { session = after s (step (s .board) (take partial-room l)); number = suc i; partial = [] }) (record { session = s; number = i; partial = extend b (take partial-room l) }) e
+        cond-false (eqb b line-end) (record { session = session-after s (step (s .board) (take partial-room l)); number = suc i; partial = [] }) (record { session = s; number = i; partial = extend b (take partial-room l) }) e
         ∙ ap (λ (x : Bytes). record { session = s; number = i; partial = x }) (extend-first b l)
         in
         let said : answered-by m b ≡ [] = cond-false (eqb b line-end) (step (s .board) (take partial-room l) .answer ∷ []) [] e in

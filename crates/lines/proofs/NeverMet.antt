@@ -5,7 +5,7 @@ use mathlib.Core.List.{List, [], _∷_}
 use Rattle.lists.specs.Select.{every}
 use Rattle.lists.proofs.Members.{every-append}
 use Rattle.lines.specs.Bytes.{Bytes, lines}
-use Rattle.lines.specs.Session.{Session, new-session, step, after}
+use Rattle.lines.specs.Session.{Session, new-session, step, session-after}
 use Rattle.lines.specs.NeverMet.{step-numbers, numbers-from, NeverMet}
 use Rattle.lines.proofs.NeverMet.Between.{InRun}
 use Rattle.lines.proofs.NeverMet.MayMeet.{may-meet}
@@ -16,12 +16,12 @@ pub mod Calls
 pub mod Lines
 
 along : (s : Session) (ls : List Bytes) → InRun (s .board) (s .tally) → every may-meet (numbers-from s ls) ≡ true
-unfolding numbers-from every after
+unfolding numbers-from every session-after
 along s [] h = refl
 along s (l ∷ ls) h =
     let line = goes-line (s .board) (s .tally) h l in
     let a = step (s .board) l in
-    every-append may-meet (step-numbers (s .tally) a) (numbers-from (after s a) ls) (line .met) (along (after s a) ls (line .after))
+    every-append may-meet (step-numbers (s .tally) a) (numbers-from (session-after s a) ls) (line .met) (along (session-after s a) ls (line .after))
 
 pub never-met : NeverMet
 unfolding NeverMet InRun new-session

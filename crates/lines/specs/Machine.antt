@@ -8,7 +8,7 @@ use lib.Dec.{eqb}
 use lib.ListN.{length}
 use Rattle.lines.specs.Bytes.{Bytes, line-end}
 use Rattle.lines.specs.Reading.{longest-line, too-long}
-use Rattle.lines.specs.Session.{Session, new-session, Answer, Step, step, after, run}
+use Rattle.lines.specs.Session.{Session, new-session, Answer, Step, step, session-after, run}
 use Rattle.lines.specs.Output.{printed-answers, at-end, output}
 
 -- the session, the number of the line that is being read, and its bytes so far
@@ -39,7 +39,7 @@ answered-by m b = cond (eqb b line-end) (line-step m .answer ∷ []) []
 unfoldable pub after-byte : Machine → ℕ → Machine
 after-byte m b =
     cond (eqb b line-end)
-    (record { session = after (m .session) (line-step m); number = suc (m .number); partial = [] })
+    (record { session = session-after (m .session) (line-step m); number = suc (m .number); partial = [] })
     (record { session = m .session; number = m .number; partial = extend b (m .partial) })
 
 -- bytes one after the other
@@ -56,7 +56,7 @@ unfoldable pub last-answers : Machine → List Answer
 last-answers m = cond (eqb (length (m .partial)) 0) [] (line-step m .answer ∷ [])
 
 unfoldable pub last-session : Machine → Session
-last-session m = cond (eqb (length (m .partial)) 0) (m .session) (after (m .session) (line-step m))
+last-session m = cond (eqb (length (m .partial)) 0) (m .session) (session-after (m .session) (line-step m))
 
 -- what the program prints along bytes, and at the end of input
 unfoldable pub printed-along : Machine → Bytes → Bytes

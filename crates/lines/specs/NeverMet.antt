@@ -8,7 +8,7 @@ use Rattle.lists.specs.Select.{every}
 use Rattle.board.specs.declared.Tally.{Tally}
 use Rattle.board.specs.Events.{event-numbers}
 use Rattle.lines.specs.Bytes.{Bytes, lines}
-use Rattle.lines.specs.Session.{Session, new-session, Answer, a-refusal, an-opening, an-admitting, a-closing, Step, step, after}
+use Rattle.lines.specs.Session.{Session, new-session, Answer, a-refusal, an-opening, an-admitting, a-closing, Step, step, session-after}
 
 -- the number of a refusal, 0 for any other answer
 unfoldable pub number-of : Answer → ℕ
@@ -24,7 +24,7 @@ step-numbers y a = number-of (a .answer) ∷ event-numbers y (a .events)
 -- those of all lines, one after the other
 unfoldable pub numbers-from : Session → List Bytes → List ℕ
 numbers-from s [] = []
-numbers-from s (l ∷ ls) = let a = step (s .board) l in step-numbers (s .tally) a ++ numbers-from (after s a) ls
+numbers-from s (l ∷ ls) = let a = step (s .board) l in step-numbers (s .tally) a ++ numbers-from (session-after s a) ls
 
 -- none of them is 2, 8, 9 or 10
 unfoldable pub NeverMet : Type 0

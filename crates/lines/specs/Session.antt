@@ -106,8 +106,8 @@ unfoldable pub step : Option Board → Bytes → Step
 step o l = step-if (line-number (is-open o) l) o l
 
 -- the session after a step: the tally is fed its events
-unfoldable pub after : Session → Step → Session
-after s a = record { board = a .board; tally = fed (s .tally) (a .events) }
+unfoldable pub session-after : Session → Step → Session
+session-after s a = record { board = a .board; tally = fed (s .tally) (a .events) }
 
 -- a run: the answers to all lines, and the session after the last
 pub record Run : Type 0 where
@@ -119,7 +119,7 @@ unfoldable pub run-from : Session → List Bytes → Run
 run-from s [] = record { answers = []; session = s }
 run-from s (l ∷ ls) =
     let a = step (s .board) l in
-    let r = run-from (after s a) ls in
+    let r = run-from (session-after s a) ls in
     record { answers = a .answer ∷ r .answers; session = r .session }
 
 -- the run of an input

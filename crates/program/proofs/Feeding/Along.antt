@@ -8,7 +8,7 @@ use lib.Dec.{eqb}
 use Rattle.lists.specs.Select.{every}
 use Rattle.lists.proofs.Tests.{and-left, and-right, cond-false}
 use Rattle.lines.specs.Bytes.{Bytes, line-end}
-use Rattle.lines.specs.Session.{Session, Answer, step, after}
+use Rattle.lines.specs.Session.{Session, Answer, step, session-after}
 use Rattle.lines.specs.Output.{printed-answer, printed-answers}
 use Rattle.lines.specs.Machine.{Machine, extend, line-step, answered-by, after-byte, after-bytes, answers-along, printed-along}
 use Rattle.lines.proofs.Cutting.{one-line}
@@ -29,7 +29,7 @@ module _ (s : Session) (i : ℕ) where
   -- a byte that ends no line
   byte-after : (l : Bytes) (b : ℕ) → eqb b line-end ≡ false → after-byte (reading l) b ≡ reading (extend b l)
   unfolding after-byte line-step
-  byte-after l b e = cond-false (eqb b line-end) (record { session = after s (step (s .board) l); number = suc i; partial = [] }) (reading (extend b l)) e
+  byte-after l b e = cond-false (eqb b line-end) (record { session = session-after s (step (s .board) l); number = suc i; partial = [] }) (reading (extend b l)) e
 
   byte-answered : (l : Bytes) (b : ℕ) → eqb b line-end ≡ false → answered-by (reading l) b ≡ []
   unfolding answered-by line-step
@@ -56,7 +56,7 @@ module _ (s : Session) (i : ℕ) where
 
   -- with a line end behind them, the line is answered
   module _ (l bs : Bytes) (h : one-line bs ≡ true) where
-    pub line-after : after-bytes (reading l) (bs ++ (line-end ∷ [])) ≡ record { session = after s (step (s .board) (extend-all l bs)); number = suc i; partial = [] }
+    pub line-after : after-bytes (reading l) (bs ++ (line-end ∷ [])) ≡ record { session = session-after s (step (s .board) (extend-all l bs)); number = suc i; partial = [] }
     unfolding after-bytes after-byte line-step line-end
     line-after = after-append (reading l) bs (line-end ∷ []) ∙ ap (λ (m : Machine). after-bytes m (line-end ∷ [])) (part-after l bs h)
 

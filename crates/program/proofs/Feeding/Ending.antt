@@ -9,7 +9,7 @@ use lib.Dec.{eqb}
 use lib.ListN.{length}
 use Rattle.lists.proofs.Tests.{cond-true, cond-false}
 use Rattle.lines.specs.Bytes.{Bytes}
-use Rattle.lines.specs.Session.{Session, after}
+use Rattle.lines.specs.Session.{Session, session-after}
 use Rattle.lines.specs.Output.{printed-answer, printed-answers, printed-tally, at-end}
 use Rattle.lines.specs.Machine.{Machine, line-step, last-answers, last-session, printed-at-end}
 use Rattle.program.specs.declared.session.Day.{Day}
@@ -28,7 +28,7 @@ module _ (m : Machine) where
 
     pub none-after : last-session m ≡ m .session
     unfolding last-session
-    none-after = cond-true (eqb (length (m .partial)) 0) (m .session) (after (m .session) (line-step m)) (eq-eqb (length (m .partial)) 0 h)
+    none-after = cond-true (eqb (length (m .partial)) 0) (m .session) (session-after (m .session) (line-step m)) (eq-eqb (length (m .partial)) 0 h)
 
   module _ (h : length (m .partial) ≡ 0 → ⊥) where
     -- one has
@@ -38,9 +38,9 @@ module _ (m : Machine) where
         ap (printed-answers (m .number)) (cond-false (eqb (length (m .partial)) 0) [] (line-step m .answer ∷ []) (ne-eqb (length (m .partial)) 0 h))
         ∙ append-nil (printed-answer (m .number) (line-step m .answer))
 
-    pub begun-after : last-session m ≡ after (m .session) (line-step m)
+    pub begun-after : last-session m ≡ session-after (m .session) (line-step m)
     unfolding last-session
-    begun-after = cond-false (eqb (length (m .partial)) 0) (m .session) (after (m .session) (line-step m)) (ne-eqb (length (m .partial)) 0 h)
+    begun-after = cond-false (eqb (length (m .partial)) 0) (m .session) (session-after (m .session) (line-step m)) (ne-eqb (length (m .partial)) 0 h)
 
   module _ (d : Day) (e : session-of d ≡ last-session m) where
     ends : printed-at-end m ≡ last-printed ++ at-end (session-of d .board) (session-of d .tally)

@@ -8,7 +8,7 @@ use native.Mathlib.Omega.{arith}
 use borrow.Author.Tests.{ltb-true, ltb-false}
 use lib.ListN.{length, getD}
 use Rattle.lines.specs.Bytes.{Bytes, line-end}
-use Rattle.lines.specs.Session.{Session, step, after}
+use Rattle.lines.specs.Session.{Session, step, session-after}
 use Rattle.lines.specs.Output.{printed-answer}
 use Rattle.lines.specs.Machine.{partial-room, after-bytes, printed-along}
 use Rattle.lines.proofs.Cutting.{one-line}
@@ -82,7 +82,7 @@ module _
             number = omega (arith, l .forward);
             machine = ap₂
                 (λ (x : Session) (n : ℕ). record { session = x; number = n; partial = [] })
-                (a .session ∙ ap (λ (x : Bytes). after (session-of (k .day)) (step (session-of (k .day) .board) x)) e)
+                (a .session ∙ ap (λ (x : Bytes). session-after (session-of (k .day)) (step (session-of (k .day) .board) x)) e)
                 (add-one (k .number))
                 ∙ sym (line-after (session-of (k .day)) (k .number) (partial-bytes (k .partial)) (part s from to) (l .first))
                 ∙ ap (after-bytes (machine-of k)) (sym used-line);

@@ -17,7 +17,7 @@ use Rattle.board.specs.Events.{given-up-kind, event, baked-events, given-up-eve
 use Rattle.board.specs.Held.{slot-of}
 use Rattle.board.proofs.Calls.SoundAfter.{closed-sound}
 use Rattle.board.proofs.Tallies.Fed.{let-through, fed-append}
-use Rattle.lines.specs.Session.{Named, named, a-closing, step-refused, step-close, after}
+use Rattle.lines.specs.Session.{Named, named, a-closing, step-refused, step-close, session-after}
 use Rattle.answers.specs.declared.Answer.the-variants.{Closed as SlotClosed}
 use Rattle.answers.specs.Printed.{answer-of}
 use Rattle.program.specs.declared.session.Day.{Day}
@@ -59,7 +59,7 @@ module _ (day : Day) (c : Closed) (e : c ≡ closed (day .board) places-held) wh
       → y ≡ fed (fed (day .tally) (baked-events (c .ticket) (c .grade))) (map (event given-up-kind) (take (c .listed) G))
       → Did day (step-close (day .board))
       (record { day = open-day (c .board) y; answer = SlotClosed (day .board .slot) (c .ticket) (c .grade); listed = c .listed }) T G
-  unfolding session-of after GoodDay answer-of
+  unfolding session-of session-after GoodDay answer-of
   close-did T G y s h n z =
       did-as (close-step h)
       (record {

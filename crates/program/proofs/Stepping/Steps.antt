@@ -18,7 +18,7 @@ use Rattle.board.specs.Events.{admitted-kind, event, admit-events, fed}
 use Rattle.board.proofs.Calls.SoundAfter.{admitted-sound}
 use Rattle.board.proofs.Calls.SoundAfterOpening.{opened-sound}
 use Rattle.board.proofs.Tallies.Fed.{let-through}
-use Rattle.lines.specs.Session.{Session, an-opening, an-admitting, Step, step-refused, step-open, step-admit, after}
+use Rattle.lines.specs.Session.{Session, an-opening, an-admitting, Step, step-refused, step-open, step-admit, session-after}
 use Rattle.lines.proofs.NeverMet.MayMeet.{opened-shallow}
 use Rattle.answers.specs.declared.Answer.the-variants.{Refused, Opened as BoardOpened, Admitted as JobAdmitted}
 use Rattle.answers.specs.Printed.{answer-of}
@@ -45,7 +45,7 @@ unfolding session-of
 day-board d h = ap (λ o. cond o (some (d .board)) none) h
 
 pub refusal-did : (day : Day) (n : ℕ) → GoodDay day → DidAlone day (step-refused (session-of day .board) n) (record { day = day; answer = Refused n; listed = 0 })
-unfolding step-refused after fed answer-of
+unfolding step-refused session-after fed answer-of
 refusal-did day n g T G = record { good = g; session = refl; few = omega arith; answer = refl }
 
 module _ (day : Day) (d : ℕ) (o : Opened) (e : o ≡ opened d) where
@@ -59,7 +59,7 @@ module _ (day : Day) (d : ℕ) (o : Opened) (e : o ≡ opened d) where
 
   pub open-did : o .refusal ≡ 0
       → DidAlone day (step-open (session-of day .board) d) (record { day = open-day (o .board) (day .tally); answer = BoardOpened d; listed = 0 })
-  unfolding answer-of session-of after fed GoodDay
+  unfolding answer-of session-of session-after fed GoodDay
   open-did h T G =
       did-as (open-step h)
       (record { good = λ _. rw e (opened-sound d (opened-shallow d (rw e at h))); session = refl; few = omega arith; answer = refl })
@@ -81,7 +81,7 @@ module _ (day : Day) (t w g : ℕ) (a : Admitted) (e : a ≡ admitted (day .boar
 
   pub admit-did : (y : Tally) → sound (day .board) ≡ true → a .refusal ≡ 0 → y ≡ fed (day .tally) (event admitted-kind g ∷ [])
       → DidAlone day (step-admit (day .board) t w g) (record { day = open-day (a .board) y; answer = JobAdmitted t (a .last); listed = 0 })
-  unfolding answer-of session-of after GoodDay
+  unfolding answer-of session-of session-after GoodDay
   admit-did y s h c T G =
       did-as (admit-step h)
       (record { good = λ _. rw e (admitted-sound (day .board) t w g s); session = ap (open-session (a .board)) (c ∙ sym (one-fed h)); few = omega arith; answer = refl })

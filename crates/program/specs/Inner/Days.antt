@@ -8,7 +8,7 @@ use lib.ListN.{length, take}
 use Rattle.board.specs.Limits.{places-held}
 use Rattle.board.specs.Sound.{sound}
 use Rattle.lines.specs.Bytes.{Bytes}
-use Rattle.lines.specs.Session.{Session, Step, step, after}
+use Rattle.lines.specs.Session.{Session, Step, step, session-after}
 use Rattle.lines.specs.Output.{printed-answer}
 use Rattle.printing.specs.Lines.{put}
 use Rattle.answers.specs.Printed.{answer-of, answer-room}
@@ -26,7 +26,7 @@ GoodDay d = d .opened ≡ true → sound (d .board) ≡ true
 -- a step done on a day: the day after it has the session after the step, and its answer has the jobs given up first in two lists
 pub record Did (day : Day) (a : Step) (r : Stepped) (tickets grades : List ℕ) : Type 0 where
   pub good : GoodDay (r .day)
-  pub session : session-of (r .day) ≡ after (session-of day) a
+  pub session : session-of (r .day) ≡ session-after (session-of day) a
   pub few : r .listed ≤ places-held
   pub answer : answer-of (r .answer) (take (r .listed) tickets) (take (r .listed) grades) ≡ a .answer
 
@@ -46,4 +46,4 @@ pub record Given (bs : Bytes) (s : Session) (out : Bytes) (at : ℕ) (r : DayAft
 abbrev pub Answered : (day : Day) (number : ℕ) (line out : Bytes) (at : ℕ) (r : DayAfter) (out' : Bytes) → Type 0
 Answered day number line out at r out' =
     let a = step (session-of day .board) line in
-    Given (printed-answer number (a .answer)) (after (session-of day) a) out at r out'
+    Given (printed-answer number (a .answer)) (session-after (session-of day) a) out at r out'
