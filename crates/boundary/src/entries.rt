@@ -40,7 +40,7 @@ fn closing(b: Board, lent: usize) -> ClosedParts
     let mut grades = [0u8; Board::PLACES];
     let mut slots = [0u32; Board::PLACES];
     let n = lists::lesser(lent, Board::PLACES);
-    let answer = calls::close::close(b, &mut tickets[..n], &mut grades[..n], &mut slots[..n]);
+    let answer = closing::close(b, &mut tickets[..n], &mut grades[..n], &mut slots[..n]);
     let count = answer.listed as usize;
     let parts = Parts {
         tickets,

@@ -34,7 +34,7 @@ pub extern "C" fn oven_open(depth: u32) -> Opened
 pub extern "C" fn oven_admit(b: Board, ticket: u32, laxity: Laxity, grade: u32) -> Admitted
     ensures { λ r. ⌜ r ≡ admitted b ticket (laxity .0) grade ⌝ }
 {
-    calls::admit::admit(b, ticket, laxity, grade)
+    admitting::admit(b, ticket, laxity, grade)
 }
 
 #[no_mangle]
@@ -49,7 +49,7 @@ pub extern "C" fn oven_close(
         let after = lent-of (now (tickets .exit)) (now (grades .exit)) (now (slots .exit)) in
         ⌜ ClosedInto b before after r ⌝ }
 {
-    calls::close::close(b, tickets, grades, slots)
+    closing::close(b, tickets, grades, slots)
 }
 
 #[no_mangle]

@@ -11,8 +11,6 @@ use answers::Answer;
 use board::Board;
 use board::Laxity;
 use board::Tally;
-use calls::admit;
-use calls::close;
 use reading::Asked;
 
 // The board, if one is open, and the tally.
@@ -79,7 +77,7 @@ fn admit_line(day: Day, ticket: u32, laxity: Laxity, grade: u32) -> Stepped
     ensures { λ r. ⌜ DidAlone day (step-admit (day .board) ticket (laxity .0) grade) r ⌝ }
 {
     let b = day.board;
-    let a = admit::admit_in_limits(b, ticket, laxity, grade);
+    let a = admitting::admit_in_limits(b, ticket, laxity, grade);
     if a.refusal != 0 {
         return refuse(day, a.refusal);
     }
@@ -108,7 +106,7 @@ fn close_line(day: Day, tickets: &mut [u32], grades: &mut [u8], slots: &mut [u32
     ensures { λ r. ⌜ Did day (step-close (day .board)) r (now (tickets .exit)) (now (grades .exit)) ⌝ }
 {
     let b = day.board;
-    let c = close::close_in_limits(b, tickets, grades, slots);
+    let c = closing::close_in_limits(b, tickets, grades, slots);
     if c.refusal != 0 {
         return refuse(day, c.refusal);
     }

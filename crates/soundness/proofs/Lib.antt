@@ -2,3 +2,4 @@ pub mod Steps
 pub mod Sharing
 pub mod Walk
 pub mod Parts
+pub mod Limits

@@ -20,7 +20,7 @@ use Rattle.board.proofs.Soundness.Apart.{facts}
 use Rattle.board.proofs.Soundness.HeldCount.{held-count}
 use Rattle.lines.specs.Session.{named}
 use Rattle.answers.specs.Printed.{jobs-of}
-use Rattle.calls.specs.Inner.Closings.{InOrder, LentInOrder, ClosedInOrder}
+use Rattle.closing.specs.Inner.Closings.{InOrder, LentInOrder, ClosedInOrder}
 
 -- tickets and grades of jobs name them
 pub jobs-named : (A : List Job) {T G : List ℕ} → T ≡ map (λ (r : Job). r .ticket) A → G ≡ map (λ (r : Job). r .grade) A → jobs-of T G ≡ map named A

@@ -2,7 +2,7 @@
 use mathlib.Core.Path.{_≡_, _∙_}
 use borrow.Author.Needs.{needs}
 use Rattle.board.specs.Admit.{admitted}
-use Rattle.calls.proofs.Admitting.OnSound.{admitting-on-sound}
+use Rattle.admitting.proofs.OnSound.{admitting-on-sound}
 use Rattle.program.specs.Inner.Days.{GoodDay}
 use Rattle.program.proofs.Stepping.Steps.{alone-as, admit-refused, admit-did}
 use Rattle.program.proofs.session.admit_line.Statement.{statement}

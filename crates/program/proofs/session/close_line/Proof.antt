@@ -10,7 +10,7 @@ use Rattle.board.specs.Sound.{sound}
 use Rattle.board.specs.Close.{closed}
 use Rattle.board.specs.declared.Tally.{Tally}
 use Rattle.board.specs.Events.{given-up-kind, event, fed}
-use Rattle.calls.proofs.Closing.OnSound.{meets-on-sound}
+use Rattle.closing.proofs.OnSound.{meets-on-sound}
 use Rattle.program.specs.Inner.Days.{GoodDay}
 use Rattle.program.proofs.Stepping.Steps.{did-as}
 use Rattle.program.proofs.Stepping.Entries.{Entered, entered, entry-count-full}

@@ -1,3 +1,0 @@
-pub mod InSlot
-pub mod ByNumber
-pub mod OnSound
