@@ -9,7 +9,8 @@ use Rattle.board.specs.Rows.{_if_, first-given}
 use Rattle.lines.specs.Bytes.{fields, onto-first, comma, letter-A, letter-B, letter-D}
 use Rattle.lines.specs.Fields.{is-letter, is-number, readable-as, value-as, is-blank, is-digit, value, value-after}
 use Rattle.lines.specs.Reading.{open-board, admit-job, close-slot, forms, form-in, field, form-of, longest-line, too-long, fields-wanted, readable, out-of-turn, form-rows, line-rows, line-number, with-values, request-by, request}
-use Rattle.reading.specs.Answers.{result, line-result}
+use Rattle.fields.specs.Results.{result}
+use Rattle.reading.specs.Answers.{line-result}
 
 examples :
     -- `B` while a board is open

@@ -9,9 +9,11 @@ use Rattle.board.specs.Rows.{_if_, first-given}
 use Rattle.lines.specs.Bytes.{Bytes}
 use Rattle.lines.specs.Fields.{Kind, readable-as, value-as}
 use Rattle.lines.specs.Reading.{Request, Asks, field, readable, with-values}
-use Rattle.reading.specs.declared.numbers.Field.the-variants.{Number, Bad}
-use Rattle.reading.specs.Answers.{result}
-use Rattle.reading.specs.Inner.Parts.{unless, field-result, field-read, fields-read}
+use Rattle.fields.specs.declared.numbers.Field.the-variants.{Number, Bad}
+use Rattle.fields.specs.Results.{result}
+use Rattle.fields.specs.Results.{unless}
+use Rattle.fields.specs.Numbers.{field-result, field-read}
+use Rattle.reading.specs.Inner.Parts.{fields-read}
 use Rattle.reading.proofs.Results.{row-given, row-not-given}
 
 -- what a field's answer says of it

@@ -17,8 +17,10 @@ use Rattle.lines.specs.Reading.{Form, forms, form-in, fields-wanted, readable, 
 use Rattle.lines.proofs.InTurn.{Every, found}
 use Rattle.reading.specs.declared.Letter.the-variants.{Is, Other}
 use Rattle.reading.specs.declared.Asked.the-variants.{Close}
-use Rattle.reading.specs.Answers.{asked-result, result}
-use Rattle.reading.specs.Inner.Parts.{letter-result, form-result, letter-read, unless, fields-read, form-read, after-letter}
+use Rattle.reading.specs.Answers.{asked-result}
+use Rattle.fields.specs.Results.{result}
+use Rattle.reading.specs.Inner.Parts.{letter-result, form-result, letter-read, fields-read, form-read, after-letter}
+use Rattle.fields.specs.Results.{unless}
 use Rattle.reading.proofs.Results.{not-both, values-given}
 
 -- a field of one byte is judged by that byte, and any other field is no letter

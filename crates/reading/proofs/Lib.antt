@@ -1,6 +1,4 @@
-pub mod Commas
 pub mod Results
-pub mod Digits
 pub mod Letters
 pub mod FieldByField
 pub mod LineRows

@@ -16,7 +16,8 @@ use Rattle.lines.specs.Reading.{Request, Form, form-of, field, longest-line, to
 use Rattle.reading.specs.declared.Asked.{Asked}
 use Rattle.reading.specs.declared.Asked.the-variants.{Open, Admit, Close, Refused}
 use Rattle.reading.specs.declared.Letter.the-variants.{Is, Other}
-use Rattle.reading.specs.Answers.{asked-result, result, line-result}
+use Rattle.reading.specs.Answers.{asked-result, line-result}
+use Rattle.fields.specs.Results.{result}
 use Rattle.reading.specs.Inner.Parts.{letter-result, letter-read, fields-read, form-read, after-letter}
 use Rattle.reading.proofs.Asked.{the-type}
 use Rattle.reading.proofs.Results.{row-given, row-not-given}

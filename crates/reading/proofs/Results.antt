@@ -5,8 +5,8 @@ use mathlib.Core.Option.{none, some}
 use Prim.Native.Nat.{ℕ, zero, suc, _<_}
 use native.Mathlib.Omega.{arith}
 use Rattle.board.specs.Rows.{_if_, first-given}
-use Rattle.reading.specs.Answers.{Result, result}
-use Rattle.reading.specs.Inner.Parts.{unless}
+use Rattle.fields.specs.Results.{Result, result}
+use Rattle.fields.specs.Results.{unless}
 
 -- a refusal is no answer with values
 pub not-both : {A : Type 0} (m n : ℕ) (a : A) → _≡_ {A = Result A} (m, none) (n, some a) → ⊥

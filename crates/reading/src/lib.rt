@@ -4,16 +4,12 @@ ghost use Rattle.lines.specs.Bytes.{letter-A, letter-D};
 ghost use Rattle.lines.specs.Reading.{longest-line};
 ghost use Rattle.reading.specs.Answers.{asked-result, line-result};
 ghost use Rattle.reading.specs.Inner.Parts.{letter-result, letter-read, after-letter};
-
-mod fields;
-mod numbers;
-
 use board::Laxity;
 use fields::count_fields;
 use fields::nth_field;
-use numbers::Field;
-use numbers::grade_field;
-use numbers::number_field;
+use fields::numbers::Field;
+use fields::numbers::grade_field;
+use fields::numbers::number_field;
 
 // Most bytes of a line, the line end not counted.
 pub const LONGEST_LINE: usize = 40;

@@ -4,9 +4,10 @@ use borrow.Author.Needs.{needs}
 use Rattle.lines.specs.Bytes.{letter-A, letter-D}
 use Rattle.lines.specs.Fields.{a-number, a-grade, is-letter}
 use Rattle.lines.specs.Reading.{forms, form-in, field}
-use Rattle.reading.specs.declared.numbers.Field.the-variants.{Number}
+use Rattle.fields.specs.declared.numbers.Field.the-variants.{Number}
 use Rattle.reading.specs.Answers.{asked-result}
-use Rattle.reading.specs.Inner.Parts.{field-result, field-read, form-read, after-letter}
+use Rattle.fields.specs.Numbers.{field-result, field-read}
+use Rattle.reading.specs.Inner.Parts.{form-read, after-letter}
 use Rattle.reading.proofs.FieldByField.{bad-field, good-field, no-more-fields}
 use Rattle.reading.proofs.read_admit.Statement.{statement}
 use Rattle.reading.proofs.read_admit.Tie as tie

@@ -3,28 +3,13 @@ use mathlib.Core.Bool.{Bool, not}
 use mathlib.Core.List.{List, [], _∷_}
 use mathlib.Core.Option.{Option, none, some}
 use Prim.Native.Nat.{ℕ}
-use Rattle.board.specs.Rows.{Row, _if_, first-given}
+use Rattle.board.specs.Rows.{_if_}
 use Rattle.lines.specs.Bytes.{Bytes}
-use Rattle.lines.specs.Fields.{Kind, readable-as, value-as}
+use Rattle.lines.specs.Fields.{Kind}
 use Rattle.lines.specs.Reading.{Request, Asks, Form, forms, form-in, fields-wanted, readable, with-values, request-by}
 use Rattle.reading.specs.declared.Letter.{Letter}
 use Rattle.reading.specs.declared.Letter.the-variants.{Is, Other}
-use Rattle.reading.specs.declared.numbers.Field.{Field}
-use Rattle.reading.specs.declared.numbers.Field.the-variants.{Number, Bad}
-use Rattle.reading.specs.Answers.{Result, result}
-
--- the values, unless this row is given
-unfoldable pub unless : {A : Type 0} → Row → A → Result A
-unless r a = result (first-given (r ∷ [])) a
-
--- a field's number and value
-unfoldable pub field-result : Field → Result ℕ
-field-result (Number n) = (0, some n)
-field-result Bad = (14, none)
-
--- row 14 of a field of this kind, or its value
-unfoldable pub field-read : Kind → Bytes → Result ℕ
-field-read k f = unless (14 if not (readable-as k f)) (value-as k f)
+use Rattle.fields.specs.Results.{Result, unless}
 
 -- a first field's number and values: its letter, how many fields the line has, and whether it is for a board that is open
 unfoldable pub letter-result : Letter → Result (ℕ × ℕ × Bool)

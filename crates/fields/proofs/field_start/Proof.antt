@@ -7,9 +7,9 @@ use borrow.Author.Needs.{needs}
 use lib.ListN.{length, drop}
 use Rattle.lines.specs.Bytes.{comma}
 use Rattle.lines.specs.Reading.{field}
-use Rattle.reading.proofs.Commas.{past, field-comma, field-other, field-none}
-use Rattle.reading.proofs.fields.field_start.Statement.{statement}
-use Rattle.reading.proofs.fields.field_start.Tie as tie
+use Rattle.fields.proofs.Commas.{past, field-comma, field-other, field-none}
+use Rattle.fields.proofs.field_start.Statement.{statement}
+use Rattle.fields.proofs.field_start.Tie as tie
 
 abbrev Inv-loop : tie.InvT-loop
 Inv-loop line n left₀ at₀ left at =

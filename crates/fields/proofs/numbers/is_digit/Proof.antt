@@ -1,8 +1,8 @@
 -- `is_digit` answers the definition's test.
 use borrow.Author.Tests.{lt-leb, le-leb}
 use Rattle.lines.specs.Fields.{is-digit}
-use Rattle.reading.proofs.numbers.is_digit.Statement.{statement}
-use Rattle.reading.proofs.numbers.is_digit.Tie as tie
+use Rattle.fields.proofs.numbers.is_digit.Statement.{statement}
+use Rattle.fields.proofs.numbers.is_digit.Tie as tie
 
 returns : tie.Need-returns
 unfolding is-digit

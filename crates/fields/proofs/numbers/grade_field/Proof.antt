@@ -1,9 +1,9 @@
 -- `grade_field` answers 0 for a blank field, and a field's number for any other.
 use borrow.Author.Needs.{needs}
 use mathlib.Core.Path.{_∙_}
-use Rattle.reading.proofs.Digits.{blank-grade, some-grade}
-use Rattle.reading.proofs.numbers.grade_field.Statement.{statement}
-use Rattle.reading.proofs.numbers.grade_field.Tie as tie
+use Rattle.fields.proofs.Digits.{blank-grade, some-grade}
+use Rattle.fields.proofs.numbers.grade_field.Statement.{statement}
+use Rattle.fields.proofs.numbers.grade_field.Tie as tie
 
 returns : tie.Need-returns
 returns c = blank-grade _ (c .if1 .taken)

@@ -10,12 +10,12 @@ use lib.ListN.{length, getD, drop}
 use borrow.Author.Tests.{not-true, not-false}
 use Rattle.lists.specs.Select.{every}
 use Rattle.lines.specs.Fields.{is-digit, value-after, value}
-use Rattle.reading.specs.declared.numbers.Field.the-variants.{Number}
-use Rattle.reading.specs.Inner.Parts.{field-result}
-use Rattle.reading.proofs.Commas.{past}
-use Rattle.reading.proofs.Digits.{digit-bounds, value-step, digits-step, grows, below-ten, too-short, too-long, no-digits, too-great, in-range}
-use Rattle.reading.proofs.numbers.number_field.Statement.{statement}
-use Rattle.reading.proofs.numbers.number_field.Tie as tie
+use Rattle.fields.specs.declared.numbers.Field.the-variants.{Number}
+use Rattle.fields.specs.Numbers.{field-result}
+use Rattle.fields.proofs.Commas.{past}
+use Rattle.fields.proofs.Digits.{digit-bounds, value-step, digits-step, grows, below-ten, too-short, too-long, no-digits, too-great, in-range}
+use Rattle.fields.proofs.numbers.number_field.Statement.{statement}
+use Rattle.fields.proofs.numbers.number_field.Tie as tie
 
 abbrev Inv-loop : tie.InvT-loop
 Inv-loop f n₀ at₀ n at =

@@ -13,10 +13,11 @@ use Rattle.lists.proofs.Tests.{and-left, and-right}
 use Rattle.board.specs.Rows.{_if_, first-given}
 use Rattle.lines.specs.Bytes.{Bytes}
 use Rattle.lines.specs.Fields.{is-digit, value-after, value, is-number, is-blank, a-number, a-grade, readable-as, value-as}
-use Rattle.reading.specs.declared.numbers.Field.the-variants.{Number, Bad}
-use Rattle.reading.specs.Answers.{result}
-use Rattle.reading.specs.Inner.Parts.{unless, field-result, field-read}
-use Rattle.reading.proofs.Commas.{step}
+use Rattle.fields.specs.declared.numbers.Field.the-variants.{Number, Bad}
+use Rattle.fields.specs.Results.{result}
+use Rattle.fields.specs.Results.{unless}
+use Rattle.fields.specs.Numbers.{field-result, field-read}
+use Rattle.fields.proofs.Commas.{step}
 
 pub digit-bounds : (b : ℕ) → is-digit b ≡ true → (48 ≤ b) × (b ≤ 57)
 unfolding is-digit

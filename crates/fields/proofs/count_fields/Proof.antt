@@ -6,9 +6,9 @@ use native.Mathlib.Omega.{arith}
 use borrow.Author.Needs.{needs}
 use lib.ListN.{length, drop}
 use Rattle.lines.specs.Bytes.{Bytes, comma, fields}
-use Rattle.reading.proofs.Commas.{past, count-comma, count-other}
-use Rattle.reading.proofs.fields.count_fields.Statement.{statement}
-use Rattle.reading.proofs.fields.count_fields.Tie as tie
+use Rattle.fields.proofs.Commas.{past, count-comma, count-other}
+use Rattle.fields.proofs.count_fields.Statement.{statement}
+use Rattle.fields.proofs.count_fields.Tie as tie
 
 abbrev Inv-loop : tie.InvT-loop
 Inv-loop line n₀ at₀ n at =

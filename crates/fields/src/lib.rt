@@ -5,10 +5,12 @@ ghost use lib.ListN.{length, drop};
 ghost use Rattle.lines.specs.Bytes.{fields};
 ghost use Rattle.lines.specs.Reading.{field};
 
+pub mod numbers;
+
 const COMMA: u8 = b',';
 
 // How many fields a line has: one more than its commas.
-pub(crate) fn count_fields(line: &[u8]) -> usize
+pub fn count_fields(line: &[u8]) -> usize
     ensures { λ r. ⌜ r ≡ length (fields (now (line .entry))) ⌝ }
 {
     let mut n = 1;
@@ -41,7 +43,7 @@ fn field_start(line: &[u8], n: usize) -> usize
 }
 
 // The n-th field of a line, from 0. A line with fewer fields gives no bytes.
-pub(crate) fn nth_field(line: &[u8], n: usize) -> &[u8]
+pub fn nth_field(line: &[u8], n: usize) -> &[u8]
     ensures { λ r. ⌜ now r ≡ field n (now (line .entry)) ⌝ }
 {
     let start = field_start(line, n);

@@ -7,9 +7,9 @@ use lib.ListN.{take, drop, length-drop}
 use Rattle.lists.specs.Before.{before}
 use Rattle.lists.proofs.Before.{before-within}
 use Rattle.lines.specs.Bytes.{comma}
-use Rattle.reading.proofs.Commas.{first-field}
-use Rattle.reading.proofs.fields.nth_field.Statement.{statement}
-use Rattle.reading.proofs.fields.nth_field.Tie as tie
+use Rattle.fields.proofs.Commas.{first-field}
+use Rattle.fields.proofs.nth_field.Statement.{statement}
+use Rattle.fields.proofs.nth_field.Tie as tie
 
 field-start-requires : tie.Need-field-start-requires
 field-start-requires c κs = search needs

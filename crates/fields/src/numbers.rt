@@ -1,10 +1,10 @@
 // A field read as a number.
 ghost use mathlib.Core.Path.{_≡_};
 ghost use Rattle.lines.specs.Fields.{is-digit, a-number, a-grade};
-ghost use Rattle.reading.specs.Inner.Parts.{field-result, field-read};
+ghost use Rattle.fields.specs.Numbers.{field-result, field-read};
 
 // A field's answer: its number, or that row 14 refuses it.
-pub(crate) enum Field {
+pub enum Field {
     Number(u32),
     Bad,
 }
@@ -20,7 +20,7 @@ fn is_digit(b: u8) -> bool
 }
 
 // A number: 1 to 10 decimal digits, at most 4,294,967,295.
-pub(crate) fn number_field(f: &[u8]) -> Field
+pub fn number_field(f: &[u8]) -> Field
     ensures { λ r. ⌜ field-result r ≡ field-read a-number (now (f .entry)) ⌝ }
 {
     if f.len() < 1 {
@@ -46,7 +46,7 @@ pub(crate) fn number_field(f: &[u8]) -> Field
 }
 
 // A grade: a number, or blank, which is 0.
-pub(crate) fn grade_field(f: &[u8]) -> Field
+pub fn grade_field(f: &[u8]) -> Field
     ensures { λ r. ⌜ field-result r ≡ field-read a-grade (now (f .entry)) ⌝ }
 {
     if f.len() == 0 {
