@@ -13,9 +13,9 @@ use Rattle.board.specs.Held.{slot-of, slot-number}
 use Rattle.board.specs.Admit.{admitted-if}
 use Rattle.board.proofs.Calls.Rows.{admits}
 use Rattle.soundness.specs.Inner.Walk.{in-limits}
-use Rattle.soundness.specs.Inner.Limits.{_or-else_, limits-number}
+use Rattle.limits.specs.Inner.Limits.{_or-else_, limits-number}
 use Rattle.admitting.specs.Inner.InLimits.{in-slot-before, admit-number-in-limits, LetIn}
-use Rattle.soundness.proofs.Limits.{within, limits-passed}
+use Rattle.limits.proofs.Limits.{within, limits-passed}
 
 -- a number that is not 0 stands
 pub first-stands : (n m : ℕ) → (n ≡ 0 → ⊥) → (n or-else m) ≡ n

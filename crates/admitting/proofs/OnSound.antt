@@ -15,9 +15,9 @@ use Rattle.board.specs.Admit.{admit-number, admitted-if, admitted}
 use Rattle.board.proofs.Soundness.FreePlace.{free-place}
 use Rattle.board.proofs.Calls.Rows.{row-skipped, admits}
 use Rattle.board.proofs.Calls.SoundAfter.{admit-number-sound}
-use Rattle.soundness.specs.Inner.Limits.{_or-else_}
+use Rattle.limits.specs.Inner.Limits.{_or-else_}
 use Rattle.admitting.specs.Inner.InLimits.{in-slot-before, admit-number-in-limits, admitted-in-limits}
-use Rattle.soundness.proofs.Limits.{sound-in-limits, limits-passed}
+use Rattle.limits.proofs.Limits.{sound-in-limits, limits-passed}
 use Rattle.admitting.proofs.InSlot.{in-slot-is}
 
 module _ (b : Board) (t w g : ℕ) (s : sound b ≡ true) where

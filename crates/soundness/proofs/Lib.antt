@@ -2,4 +2,3 @@ pub mod Steps
 pub mod Sharing
 pub mod Walk
 pub mod Parts
-pub mod Limits

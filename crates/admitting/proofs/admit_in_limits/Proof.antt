@@ -8,7 +8,7 @@ use Rattle.board.specs.Limits.{places-held}
 use Rattle.board.specs.Held.{slot-of}
 use Rattle.soundness.specs.Inner.Walk.{in-limits}
 use Rattle.admitting.specs.Inner.InLimits.{admitted-in-limits}
-use Rattle.soundness.proofs.Limits.{within}
+use Rattle.limits.proofs.Limits.{within}
 use Rattle.admitting.proofs.ByNumber.{number-out, number-row, number-full, number-none, let-in, answer-refused}
 use Rattle.admitting.proofs.admit_in_limits.Statement.{statement}
 use Rattle.admitting.proofs.admit_in_limits.Tie as tie

@@ -11,7 +11,7 @@ use Rattle.board.specs.Limits.{longest-laxity, places-held, last-slot, deepest}
 use Rattle.board.specs.Rows.{_if_, first-given, admit-rows}
 use Rattle.board.specs.Held.{slot-of, blank}
 use Rattle.board.specs.Admit.{admitted-if}
-use Rattle.soundness.specs.Inner.Limits.{_or-else_, limits-number}
+use Rattle.limits.specs.Inner.Limits.{_or-else_, limits-number}
 
 -- how many of the first n places, from the last of them back to one of another slot, were admitted in the board's slot
 unfoldable pub in-slot-before : Board → ℕ → ℕ

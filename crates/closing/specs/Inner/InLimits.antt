@@ -9,7 +9,7 @@ use Rattle.board.specs.Held.{slot-of}
 use Rattle.board.specs.Close.{given-up-with, closed-with}
 use Rattle.board.specs.Lent.{Lent, entry-count}
 use Rattle.search.specs.Inner.Seen.{bakes-seen}
-use Rattle.soundness.specs.Inner.Limits.{_or-else_, limits-number}
+use Rattle.limits.specs.Inner.Limits.{_or-else_, limits-number}
 use Rattle.closing.specs.Inner.Closings.{LentInOrder}
 
 -- 2 for a board that is not in its limits, then rows 3 and 8

@@ -10,8 +10,8 @@ use Rattle.board.specs.Held.{slot-of}
 use Rattle.lists.proofs.Joined.{apart, together}
 use borrow.Author.Tests.{leb-true, le-leb}
 use Rattle.board.proofs.Soundness.Apart.{facts}
 use Rattle.soundness.specs.Inner.Walk.{limit-tests, in-limits}
-use Rattle.soundness.specs.Inner.Limits.{limits-number}
+use Rattle.limits.specs.Inner.Limits.{limits-number}
 
 pub record Within (b : Board) : Type 0 where
   pub shallow : b .depth ≤ deepest
