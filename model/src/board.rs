@@ -82,6 +82,11 @@ pub fn open(depth: u32) -> (Board, Result<(), Refusal>) {
     (Board::holding(depth, 1, 0, &[]), Ok(()))
 }
 
+/// The worst grade of a board's depth.
+pub fn worst_grade(depth: u32) -> u32 {
+    (1 << depth) - 1
+}
+
 /// Whether a grade is below 2^depth; from depth 32 on every 32-bit number is.
 pub fn is_grade(grade: u32, depth: u32) -> bool {
     depth >= 32 || u64::from(grade) < 1u64 << depth

@@ -10,9 +10,6 @@ use crate::printing;
 use crate::refusal::Refusal;
 use crate::tally::{Tally, ADMITTED, BAKED, EXPIRED};
 
-/// What a blank grade means.
-const BLANK_GRADE: u32 = 0;
-
 /// The program's state: the board, if one is open, and the tally.
 #[derive(Clone, Debug, Default)]
 pub struct Day {
@@ -31,7 +28,11 @@ impl Day {
                 ticket,
                 laxity,
                 grade,
-            } => self.admit(ticket, laxity, grade.unwrap_or(BLANK_GRADE)),
+            } => {
+                // 'A blank grade now means the worst grade of the open depth' (02, One).
+                let worst = board::worst_grade(self.open_board().depth);
+                self.admit(ticket, laxity, grade.unwrap_or(worst))
+            }
             Request::Close => self.close(),
         }
     }

@@ -17,9 +17,9 @@ fn lines(input: &[u8]) -> usize {
 }
 
 /// The printed lines that answer a line of the input.
-fn answered(output: &str) -> usize {
+fn answers(output: &str) -> impl Iterator<Item = &str> {
     let more = |line: &&str| !line.starts_with('G') && !line.starts_with('T');
-    output.lines().filter(more).count()
+    output.lines().filter(more)
 }
 
 /// The numbers of the refusals in an output.
@@ -42,7 +42,12 @@ fn every_line_is_answered_once() {
         for seed in 0..60 {
             let input = kind.input(seed, None);
             let output = text(&input);
-            assert_eq!(answered(&output), lines(&input), "{} {seed}", kind.name);
+            assert_eq!(
+                answers(&output).count(),
+                lines(&input),
+                "{} {seed}",
+                kind.name
+            );
         }
     }
 }
@@ -82,6 +87,40 @@ fn good_days_are_hardly_refused() {
             let seen = refusals(&text(&kind(name).input(seed, None)));
             assert_eq!(seen, BTreeSet::new(), "{name} {seed}");
         }
+    }
+}
+
+/// The depths at which a rack with a blank grade is admitted.
+fn depths_with_blanks(input: &[u8]) -> BTreeSet<u32> {
+    let output = text(input);
+    let mut answers = answers(&output);
+    let (mut depth, mut seen): (Option<u32>, _) = (None, BTreeSet::new());
+    for line in input.split(|&byte| byte == b'\n') {
+        let answer = answers.next().unwrap_or("");
+        if let Some(opened) = answer.strip_prefix("D,") {
+            depth = opened.parse().ok();
+        }
+        if line.ends_with(b",") && answer.starts_with("A,") {
+            seen.extend(depth);
+        }
+    }
+    seen
+}
+
+#[test]
+fn blank_grades_are_admitted_at_every_depth() {
+    for kind in inputs::KINDS {
+        let wanted = match kind.name {
+            "overlong" | "end" => continue,
+            "long" => BTreeSet::from([3]),
+            "tiny" => BTreeSet::from([1, 2]),
+            _ => BTreeSet::from([0, 1, 2, 3]),
+        };
+        let mut seen = BTreeSet::new();
+        for seed in 0..60 {
+            seen.extend(depths_with_blanks(&kind.input(seed, None)));
+        }
+        assert_eq!(seen, wanted, "{}", kind.name);
     }
 }
 

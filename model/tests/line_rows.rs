@@ -195,9 +195,26 @@ fn row_14_blank_only_as_grade() {
 }
 
 #[test]
-fn a_blank_grade_is_0() {
-    let seen = printed("D,1\nA,1,2,\nB\n");
-    assert_eq!(seen, "D,1\nA,1,2\nB,1,1,0,0\nT,0,1,1,0\nT,1,0,0,0\n");
+fn a_blank_grade_is_the_worst_of_the_depth() {
+    // One rack without a grade is given up (at depth 0 baked), one is baked.
+    let wanted = [
+        "D,0\nA,1,1\nA,2,1\nA,3,2\nB,1,1,0,1\nG,1,2,0\nB,2,3,0,0\nT,0,3,2,1\n",
+        "D,1\nA,1,1\nA,2,1\nA,3,2\nB,1,2,0,1\nG,1,1,1\nB,2,3,1,0\nT,0,1,1,0\nT,1,2,1,1\n",
+        "D,2\nA,1,1\nA,2,1\nA,3,2\nB,1,2,0,1\nG,1,1,3\nB,2,3,3,0\nT,0,1,1,0\nT,1,0,0,0\nT,2,0,0,0\nT,3,2,1,1\n",
+        "D,3\nA,1,1\nA,2,1\nA,3,2\nB,1,2,0,1\nG,1,1,7\nB,2,3,7,0\nT,0,1,1,0\nT,1,0,0,0\nT,2,0,0,0\nT,3,0,0,0\nT,4,0,0,0\nT,5,0,0,0\nT,6,0,0,0\nT,7,2,1,1\n",
+    ];
+    for (depth, wanted) in wanted.iter().enumerate() {
+        let seen = printed(&format!("D,{depth}\nA,1,1,\nA,2,1,0\nA,3,2,\nB\nB\n"));
+        assert_eq!(seen, *wanted, "depth {depth}");
+    }
+}
+
+#[test]
+fn a_blank_grade_is_refused_for_the_other_fields_only() {
+    assert_eq!(on_open_board("A,5,1,"), "R,3,4");
+    assert_eq!(on_open_board("A,6,33,"), "R,3,5");
+    assert_eq!(on_open_board("A,6,1,2"), "R,3,6");
+    assert_eq!(on_none("A,6,1,"), "R,1,15");
 }
 
 #[test]

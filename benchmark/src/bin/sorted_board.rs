@@ -1,7 +1,7 @@
 //! The oven board's program written for speed alone: the racks stand in a vector that the rule sorts in place, soundness is not checked, and text is
 //! made nowhere but in the output's buffer.
 
-use model::board::Job;
+use model::board::{worst_grade, Job};
 use model::limits::{DEEPEST, MOST_HELD};
 use model::lines::{self, Request};
 use model::refusal::Refusal;
@@ -31,7 +31,13 @@ impl Day {
                     grade,
                 },
                 Some(at),
-            ) => self.admit(at, ticket, laxity, grade.unwrap_or(0), output),
+            ) => self.admit(
+                at,
+                ticket,
+                laxity,
+                grade.unwrap_or(worst_grade(at.depth)),
+                output,
+            ),
             (Request::Close, Some(at)) => self.close(at, output),
             _ => Err(Refusal::NotNow),
         }

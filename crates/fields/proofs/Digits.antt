@@ -7,12 +7,12 @@ use native.Mathlib.Nat.{pow-suc, pow-le-pow-right}
 use native.Mathlib.Omega.{arith}
 use lib.Dec.{leb}
 use lib.ListN.{length, getD, drop}
-use borrow.Author.Tests.{leb-true, le-leb, lt-leb, ne-eqb}
+use borrow.Author.Tests.{leb-true, le-leb, lt-leb}
 use Rattle.lists.specs.Select.{every}
 use Rattle.lists.proofs.Tests.{and-left, and-right}
 use Rattle.board.specs.Rows.{_if_, first-given}
 use Rattle.lines.specs.Bytes.{Bytes}
-use Rattle.lines.specs.Fields.{is-digit, value-after, value, is-number, is-blank, a-number, a-grade, readable-as, value-as}
+use Rattle.lines.specs.Fields.{is-digit, value-after, value, is-number, a-number, readable-as, value-as}
 use Rattle.fields.specs.declared.numbers.Field.the-variants.{Number, Bad}
 use Rattle.fields.specs.Results.{result}
 use Rattle.fields.specs.Results.{unless}
@@ -73,12 +73,3 @@ module _ (f : Bytes) where
       → field-result (Number (value f)) ≡ field-read a-number f
   unfolding is-number field-result field-read readable-as value-as unless first-given _if_ result
   in-range h k e g = simp (le-leb 1 (length f) h, le-leb (length f) 10 k, e, le-leb (value f) 4_294_967_295 g)
-
-  -- a blank grade is 0, and any other a number
-  pub blank-grade : length f ≡ 0 → field-result (Number 0) ≡ field-read a-grade f
-  unfolding field-result field-read readable-as value-as is-blank unless first-given _if_ result
-  blank-grade h = simp h
-
-  pub some-grade : (length f ≡ 0 → ⊥) → field-read a-number f ≡ field-read a-grade f
-  unfolding field-read readable-as value-as is-blank
-  some-grade h = simp (ne-eqb (length f) 0 h)

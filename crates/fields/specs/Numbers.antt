@@ -4,7 +4,7 @@ use mathlib.Core.Option.{none, some}
 use Prim.Native.Nat.{ℕ}
 use Rattle.board.specs.Rows.{_if_}
 use Rattle.lines.specs.Bytes.{Bytes}
-use Rattle.lines.specs.Fields.{Kind, readable-as, value-as}
+use Rattle.lines.specs.Fields.{Kind, readable-as, ReadAs, value-as}
 use Rattle.fields.specs.declared.numbers.Field.{Field}
 use Rattle.fields.specs.declared.numbers.Field.the-variants.{Number, Bad}
 use Rattle.fields.specs.Results.{Result, unless}
@@ -14,6 +14,6 @@ unfoldable pub field-result : Field → Result ℕ
 field-result (Number n) = (0, some n)
 field-result Bad = (14, none)
 
--- row 14 of a field of this kind, or its value
-unfoldable pub field-read : Kind → Bytes → Result ℕ
+-- row 14 of a field of this kind, or what it is read as
+unfoldable pub field-read : (k : Kind) → Bytes → Result (ReadAs k)
 field-read k f = unless (14 if not (readable-as k f)) (value-as k f)

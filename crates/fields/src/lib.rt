@@ -5,6 +5,7 @@ ghost use lib.ListN.{length, drop};
 ghost use Rattle.lines.specs.Bytes.{fields};
 ghost use Rattle.lines.specs.Reading.{field};
 
+pub mod grades;
 pub mod numbers;
 
 const COMMA: u8 = b',';

@@ -1,6 +1,6 @@
 // A field read as a number.
 ghost use mathlib.Core.Path.{_≡_};
-ghost use Rattle.lines.specs.Fields.{is-digit, a-number, a-grade};
+ghost use Rattle.lines.specs.Fields.{is-digit, a-number};
 ghost use Rattle.fields.specs.Numbers.{field-result, field-read};
 
 // A field's answer: its number, or that row 14 refuses it.
@@ -43,14 +43,4 @@ pub fn number_field(f: &[u8]) -> Field
         return Field::Bad;
     }
     Field::Number(n as u32)
-}
-
-// A grade: a number, or blank, which is 0.
-pub fn grade_field(f: &[u8]) -> Field
-    ensures { λ r. ⌜ field-result r ≡ field-read a-grade (now (f .entry)) ⌝ }
-{
-    if f.len() == 0 {
-        return Field::Number(0);
-    }
-    number_field(f)
 }

@@ -4,3 +4,4 @@ pub mod LongLines
 pub mod Answers
 pub mod ByteByByte
 pub mod NeverMet
+pub mod BlankGrade

@@ -1,7 +1,8 @@
 -- Fields read as numbers.
 use mathlib.Core.Bool.{Bool, false, cond, _&&_, _||_}
 use mathlib.Core.List.{[], _∷_}
-use Prim.Native.Nat.{ℕ, _+_, _-_, _*_}
+use mathlib.Core.Option.{Option, none, some}
+use Prim.Native.Nat.{ℕ, _+_, _-_, _*_, _^_}
 use lib.Dec.{leb, eqb}
 use lib.ListN.{length}
 use Rattle.lists.specs.Select.{every}
@@ -37,10 +38,19 @@ unfoldable pub readable-as : Kind → Bytes → Bool
 readable-as a-number f = is-number f
 readable-as a-grade f = is-blank f || is-number f
 
--- 'A blank grade is 0.'
-unfoldable pub value-as : Kind → Bytes → ℕ
+-- what such a field is read as: a number, or none for a blank grade
+abbrev pub ReadAs : Kind → Type 0
+ReadAs a-number = ℕ
+ReadAs a-grade = Option ℕ
+
+unfoldable pub value-as : (k : Kind) → Bytes → ReadAs k
 value-as a-number f = value f
-value-as a-grade f = cond (is-blank f) 0 (value f)
+value-as a-grade f = cond (is-blank f) none (some (value f))
+
+-- The grade that is meant on a board of this depth. 02, One: 'A blank grade now means the worst grade of the open depth, 2^D − 1.'
+unfoldable pub grade-meant : (depth : ℕ) → Option ℕ → ℕ
+grade-meant d none = 2 ^ d - 1
+grade-meant d (some g) = g
 
 -- a field of one given byte
 unfoldable pub is-letter : ℕ → Bytes → Bool

@@ -6,3 +6,4 @@ pub mod Session
 pub mod Output
 pub mod Machine
 pub mod NeverMet
+pub mod BlankGrade

@@ -7,18 +7,18 @@ use lib.Dec.{ltb, eqb}
 use lib.ListN.{length, getD}
 use Rattle.board.specs.Rows.{Row, _if_, first-given}
 use Rattle.lines.specs.Bytes.{Bytes, fields, letter-A, letter-B, letter-D}
-use Rattle.lines.specs.Fields.{Kind, a-number, a-grade, readable-as, value-as, is-letter}
+use Rattle.lines.specs.Fields.{Kind, a-number, a-grade, readable-as, ReadAs, value-as, is-letter}
 
 -- what a line asks for that none of rows 11 to 15 refuses
 pub data Request : Type 0 where
   open-board : (depth : ℕ) → Request
-  admit-job : (ticket laxity grade : ℕ) → Request
+  admit-job : (ticket laxity : ℕ) (grade : Option ℕ) → Request
   close-slot : Request
 
 -- a request that is still to be given the value of each of these fields
 abbrev pub Asks : List Kind → Type 0
 Asks [] = Request
-Asks (k ∷ ks) = ℕ → Asks ks
+Asks (k ∷ ks) = ReadAs k → Asks ks
 
 -- The form of a line: its letter, what its fields after the first are, whether it is for a board that is open (or for none), and what it asks for,
 -- which is given the values of these fields in their order.

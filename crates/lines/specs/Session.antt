@@ -15,6 +15,7 @@ use Rattle.board.specs.Tally.{zero-tally}
 use Rattle.board.specs.Events.{Event, admit-events, close-events, fed}
 use Rattle.board.specs.Held.{slot-of}
 use Rattle.lines.specs.Bytes.{Bytes, lines}
+use Rattle.lines.specs.Fields.{grade-meant}
 use Rattle.lines.specs.Reading.{line-number, Request, open-board, admit-job, close-slot, request}
 
 -- the board, if one is open, and the tally
@@ -94,7 +95,7 @@ when-open (some b) f = f b
 -- a request that rows 11 to 15 let through
 unfoldable pub step-request : Option Board → Request → Step
 step-request o (open-board d) = step-open o d
-step-request o (admit-job t w g) = when-open o (λ b. step-admit b t w g)
+step-request o (admit-job t w g) = when-open o (λ b. step-admit b t w (grade-meant (b .depth) g))
 step-request o close-slot = when-open o step-close
 
 -- 'the line rows, 11 to 15, come before those of the call that the line makes'

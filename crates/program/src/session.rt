@@ -4,13 +4,17 @@ ghost use mathlib.Core.Bool.{true};
 ghost use Prim.Native.Nat.{_+_, _≤_};
 ghost use lib.ListN.{length};
 ghost use Rattle.board.specs.Limits.{places-held};
+ghost use Rattle.lines.specs.Fields.{grade-meant};
 ghost use Rattle.lines.specs.Session.{step-refused, step-open, step-admit, step-close, step};
+ghost use Rattle.fields.specs.Grades.{grade-of};
 ghost use Rattle.answers.specs.Printed.{answer-room};
 ghost use Rattle.program.specs.Inner.Days.{session-of, GoodDay, Did, DidAlone, Answered};
 use answers::Answer;
 use board::Board;
 use board::Laxity;
 use board::Tally;
+use fields::grades::Grade;
+use fields::grades::grade_meant;
 use reading::Asked;
 
 // The board, if one is open, and the tally.
@@ -70,20 +74,23 @@ fn open_line(day: Day, depth: u32) -> Stepped
     }
 }
 
-// A line that admits.
-fn admit_line(day: Day, ticket: u32, laxity: Laxity, grade: u32) -> Stepped
+// A line that admits, with the grade that it means on the open board.
+fn admit_line(day: Day, ticket: u32, laxity: Laxity, grade: Grade) -> Stepped
     requires { ⌜ GoodDay day ⌝ }
     requires { ⌜ day .opened ≡ true ⌝ }
-    ensures { λ r. ⌜ DidAlone day (step-admit (day .board) ticket (laxity .0) grade) r ⌝ }
+    ensures { λ r.
+        let meant = grade-meant (day .board .depth) (grade-of grade) in
+        ⌜ DidAlone day (step-admit (day .board) ticket (laxity .0) meant) r ⌝ }
 {
     let b = day.board;
-    let a = admitting::admit_in_limits(b, ticket, laxity, grade);
+    let meant = grade_meant(b.depth, grade);
+    let a = admitting::admit_in_limits(b, ticket, laxity, meant);
     if a.refusal != 0 {
         return refuse(day, a.refusal);
     }
     let board = a.board;
     let old = day.tally;
-    let tally = tally::count_admitted(old, grade);
+    let tally = tally::count_admitted(old, meant);
     let next = Day {
         opened: true,
         board,

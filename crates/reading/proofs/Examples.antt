@@ -29,10 +29,10 @@ examples :
     (line-result true (68 ∷ 44 ∷ 57 ∷ []) ≡ (15, none)) ×
     -- `D,`: a blank depth, row 14 before row 15
     (line-result true (68 ∷ 44 ∷ []) ≡ (14, none)) ×
-    -- `A,1,1,`: a blank grade is 0
-    (line-result true (65 ∷ 44 ∷ 49 ∷ 44 ∷ 49 ∷ 44 ∷ []) ≡ (0, some (admit-job 1 1 0))) ×
+    -- `A,1,1,`: a blank grade
+    (line-result true (65 ∷ 44 ∷ 49 ∷ 44 ∷ 49 ∷ 44 ∷ []) ≡ (0, some (admit-job 1 1 none))) ×
     -- `A,12,3,4`: the values in their order
-    (line-result true (65 ∷ 44 ∷ 49 ∷ 50 ∷ 44 ∷ 51 ∷ 44 ∷ 52 ∷ []) ≡ (0, some (admit-job 12 3 4))) ×
+    (line-result true (65 ∷ 44 ∷ 49 ∷ 50 ∷ 44 ∷ 51 ∷ 44 ∷ 52 ∷ []) ≡ (0, some (admit-job 12 3 (some 4)))) ×
     -- `A,,1,0`: a blank ticket
     (line-result true (65 ∷ 44 ∷ 44 ∷ 49 ∷ 44 ∷ 48 ∷ []) ≡ (14, none)) ×
     -- `A,1,,0`: a blank laxity

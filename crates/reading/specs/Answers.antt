@@ -4,12 +4,13 @@ use mathlib.Core.Option.{none, some}
 use Rattle.lines.specs.Bytes.{Bytes}
 use Rattle.lines.specs.Reading.{line-number, Request, open-board, admit-job, close-slot, request}
 use Rattle.fields.specs.Results.{Result, result}
+use Rattle.fields.specs.Grades.{grade-of}
 use Rattle.reading.specs.declared.Asked.{Asked}
 use Rattle.reading.specs.declared.Asked.the-variants.{Open, Admit, Close, Refused}
 
 unfoldable pub asked-result : Asked → Result Request
 asked-result (Open d) = (0, some (open-board d))
-asked-result (Admit t w g) = (0, some (admit-job t (w .0) g))
+asked-result (Admit t w g) = (0, some (admit-job t (w .0) (grade-of g)))
 asked-result Close = (0, some close-slot)
 asked-result (Refused n) = (n, none)
 

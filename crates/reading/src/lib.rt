@@ -6,9 +6,11 @@ ghost use Rattle.reading.specs.Answers.{asked-result, line-result};
 ghost use Rattle.reading.specs.Inner.Parts.{letter-result, letter-read, after-letter};
 use board::Laxity;
 use fields::count_fields;
+use fields::grades::Grade;
+use fields::grades::GradeField;
+use fields::grades::grade_field;
 use fields::nth_field;
 use fields::numbers::Field;
-use fields::numbers::grade_field;
 use fields::numbers::number_field;
 
 // Most bytes of a line, the line end not counted.
@@ -18,8 +20,8 @@ pub const LONGEST_LINE: usize = 40;
 pub enum Asked {
     // A depth.
     Open(u32),
-    // Ticket, laxity (01's wait) and grade.
-    Admit(u32, Laxity, u32),
+    // Ticket, laxity (01's wait) and grade, which may be blank.
+    Admit(u32, Laxity, Grade),
     Close,
     Refused(u8),
 }
@@ -71,7 +73,7 @@ fn read_admit(line: &[u8]) -> Asked
     let Field::Number(laxity) = number_field(nth_field(line, 2)) else {
         return Asked::Refused(14);
     };
-    let Field::Number(grade) = grade_field(nth_field(line, 3)) else {
+    let GradeField::Is(grade) = grade_field(nth_field(line, 3)) else {
         return Asked::Refused(14);
     };
     Asked::Admit(ticket, Laxity(laxity), grade)

@@ -17,6 +17,7 @@ use Rattle.claims.specs.Demand3.{Demand3}
 use Rattle.claims.specs.Balance.{Balance}
 use Rattle.lines.specs.Machine.{ByteByByte}
 use Rattle.lines.specs.NeverMet.{NeverMet}
+use Rattle.lines.specs.BlankGrade.{BlankGrade}
 
 pub record Theorems : Type 0 where
   -- for every list of calls: no plan bakes more, and no rival does better by grade
@@ -42,3 +43,5 @@ pub record Theorems : Type 0 where
   pub byte-by-byte : ByteByByte
   -- the program never meets 2, 8, 9 or 10
   pub never-met : NeverMet
+  -- a blank grade is the worst of the open depth, and is never refused with 6
+  pub blank-grade : BlankGrade

@@ -1,6 +1,6 @@
 //! Days in which nearly every line is taken.
 
-use super::writer::Writer;
+use super::writer::{admitting, Writer};
 use crate::draw::Draw;
 use crate::limits::{DEEPEST, LAST_SLOT, LONGEST_LAXITY, MOST_PER_SLOT};
 
@@ -54,7 +54,7 @@ pub fn tickets(draw: &mut Draw, slots: u32) -> Vec<u8> {
     for _ in 0..slots {
         for _ in 0..draw.between(0, 3) {
             let (laxity, grade) = (draw.between(1, 6), writer.grade(draw));
-            writer.line(format!("A,{ticket},{laxity},{grade}").as_bytes());
+            writer.line(&admitting(ticket, laxity, grade));
             ticket += draw.pick(&[0, 1, 1, 1, 2]);
         }
         writer.close();
@@ -66,12 +66,12 @@ pub fn tickets(draw: &mut Draw, slots: u32) -> Vec<u8> {
 pub fn long(draw: &mut Draw, slots: u32) -> Vec<u8> {
     let mut writer = Writer::new();
     writer.open(DEEPEST);
-    let mut ticket: u32 = 0;
+    let mut ticket = 0;
     for _ in 0..slots {
         for _ in 0..MOST_PER_SLOT {
             ticket += 1;
             let (laxity, grade) = (draw.between(1, LONGEST_LAXITY), writer.grade(draw));
-            writer.line(format!("A,{ticket},{laxity},{grade}").as_bytes());
+            writer.line(&admitting(ticket, laxity, grade));
         }
         writer.close();
     }

@@ -1,7 +1,8 @@
 //! Inputs with wrong, damaged and overlong lines.
 
 use super::days;
-use super::writer::{zeros, Writer};
+use super::writer::{admitting, zeros, Writer};
+use crate::board::worst_grade;
 use crate::draw::Draw;
 use crate::limits::{DEEPEST, LONGEST_LAXITY, LONGEST_LINE, MOST_PER_SLOT};
 
@@ -136,7 +137,7 @@ fn wrong_field(draw: &mut Draw, writer: &Writer) -> Vec<u8> {
         return format!("D,{}", draw.pick(FIELDS)).into_bytes();
     }
     let next = writer.highest.saturating_add(1).to_string();
-    let mut fields = [next.as_str(), "3", "0"];
+    let mut fields = [next.as_str(), "3", draw.pick(&["0", ""])];
     let place = draw.index(3);
     fields[place] = draw.pick(FIELDS);
     if draw.one_in(3) {
@@ -152,10 +153,11 @@ fn doubtful_admitting(draw: &mut Draw, writer: &mut Writer) -> Vec<u8> {
     let next = highest.saturating_add(1);
     let ticket = draw.pick(&[next, next, highest, highest.saturating_sub(1), 0]);
     let laxity = draw.pick(&[1, 5, LONGEST_LAXITY, LONGEST_LAXITY + 1, 0, u32::MAX]);
-    let grades = 1 << writer.depth;
-    let grade = draw.pick(&[0, grades - 1, grades, grades + 1, u32::MAX]);
+    let worst = worst_grade(writer.depth);
+    let grades = [0, worst, worst + 1, worst + 2, u32::MAX].map(Some);
+    let grade = draw.pick(&[&grades[..], &[None]].concat());
     writer.highest = highest.max(ticket);
-    format!("A,{ticket},{laxity},{grade}").into_bytes()
+    admitting(u64::from(ticket), laxity, grade)
 }
 
 /// A line about as long as allowed, or far longer.
@@ -258,6 +260,7 @@ pub fn tiny(draw: &mut Draw, most: u32) -> Vec<u8> {
             b"\nA,",
             b"\nB\n",
             b"\nA,1,1,0\n",
+            b"\nA,2,1,\n",
             b"\nD,2\n",
         ];
         bytes.extend_from_slice(draw.pick(&parts));

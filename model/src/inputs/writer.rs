@@ -1,5 +1,6 @@
 //! Writes lines that the program takes.
 
+use crate::board::worst_grade;
 use crate::draw::Draw;
 
 /// The bytes so far and what the next good line needs to know.
@@ -32,27 +33,29 @@ impl Writer {
     }
 
     /// Admits a rack under the next ticket, now and then written in other ways.
-    pub fn admit(&mut self, draw: &mut Draw, laxity: u32, grade: u32) {
+    pub fn admit(&mut self, draw: &mut Draw, laxity: u32, grade: Option<u32>) {
         self.highest += draw.pick(&[1, 1, 1, 1, 5]);
         let ticket = zeros(draw, self.highest);
         let laxity = zeros(draw, laxity);
-        let blank = grade == 0 && draw.one_in(4);
-        let grade = if blank {
-            String::new()
-        } else {
-            zeros(draw, grade)
-        };
+        let grade = grade.map_or(String::new(), |grade| zeros(draw, grade));
         self.line(format!("A,{ticket},{laxity},{grade}").as_bytes());
     }
 
-    /// A grade of the open depth.
-    pub fn grade(&self, draw: &mut Draw) -> u32 {
-        draw.between(0, (1 << self.depth) - 1)
+    /// A grade of the open depth, or now and then none.
+    pub fn grade(&self, draw: &mut Draw) -> Option<u32> {
+        let grade = draw.between(0, worst_grade(self.depth));
+        (!draw.one_in(5)).then_some(grade)
     }
 
     pub fn close(&mut self) {
         self.line(b"B");
     }
+}
+
+/// A line that admits; where there is no grade its field is blank.
+pub fn admitting(ticket: u64, laxity: u32, grade: Option<u32>) -> Vec<u8> {
+    let grade = grade.map_or(String::new(), |grade| grade.to_string());
+    format!("A,{ticket},{laxity},{grade}").into_bytes()
 }
 
 /// A number, now and then with leading zeros, in at most ten digits.

@@ -7,9 +7,12 @@ use native.Mathlib.Omega.{arith}
 use Rattle.board.specs.declared.Board.{Board}
 use Rattle.board.specs.declared.Laxity.{Laxity}
 use Rattle.lines.specs.Bytes.{Bytes}
+use Rattle.lines.specs.Fields.{grade-meant}
 use Rattle.lines.specs.Reading.{line-number, Request, open-board, admit-job, close-slot}
 use Rattle.lines.specs.Session.{is-open, step-refused, step-open, step-admit, step-close, when-open, step-request, step-if, step}
 use Rattle.lines.proofs.InTurn.{needs-open, in-turn}
+use Rattle.fields.specs.declared.grades.Grade.{Grade}
+use Rattle.fields.specs.Grades.{grade-of}
 use Rattle.reading.specs.declared.Asked.the-variants.{Open, Admit, Close, Refused}
 use Rattle.reading.specs.Answers.{asked-result, line-result}
 use Rattle.reading.proofs.Says.{refused-says, asked-says}
@@ -29,9 +32,9 @@ module _ (o : Bool) (l : Bytes) where
       let s = asked-says o l q e in
       sym (in-turn o l (s .0)) ∙ ap needs-open (s .1) ∙ h
 
-  pub open-for-admit : (t : ℕ) (w : Laxity) (g : ℕ) → asked-result (Admit t w g) ≡ line-result o l → o ≡ true
+  pub open-for-admit : (t : ℕ) (w : Laxity) (g : Grade) → asked-result (Admit t w g) ≡ line-result o l → o ≡ true
   unfolding asked-result needs-open
-  open-for-admit t w g e = open-for (admit-job t (w .0) g) refl e
+  open-for-admit t w g e = open-for (admit-job t (w .0) (grade-of g)) refl e
 
   pub open-for-close : asked-result Close ≡ line-result o l → o ≡ true
   unfolding asked-result needs-open
@@ -66,12 +69,12 @@ module _ (d : Day) (l : Bytes) where
   unfolding asked-result step-request
   line-opens depth e = by-request (open-board depth) e
 
-  pub line-admits : (t : ℕ) (w : Laxity) (g : ℕ) → asked-result (Admit t w g) ≡ line-result (d .opened) l
-      → step (session-of d .board) l ≡ step-admit (d .board) t (w .0) g
+  pub line-admits : (t : ℕ) (w : Laxity) (g : Grade) → asked-result (Admit t w g) ≡ line-result (d .opened) l
+      → step (session-of d .board) l ≡ step-admit (d .board) t (w .0) (grade-meant (d .board .depth) (grade-of g))
   unfolding asked-result step-request when-open
   line-admits t w g e =
-      by-request (admit-job t (w .0) g) e
-      ∙ ap (λ o. step-request o (admit-job t (w .0) g)) (day-board d (open-for-admit (d .opened) l t w g e))
+      by-request (admit-job t (w .0) (grade-of g)) e
+      ∙ ap (λ o. step-request o (admit-job t (w .0) (grade-of g))) (day-board d (open-for-admit (d .opened) l t w g e))
 
   pub line-closes : asked-result Close ≡ line-result (d .opened) l → step (session-of d .board) l ≡ step-close (d .board)
   unfolding asked-result step-request when-open

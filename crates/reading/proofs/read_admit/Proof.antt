@@ -5,8 +5,10 @@ use Rattle.lines.specs.Bytes.{letter-A, letter-D}
 use Rattle.lines.specs.Fields.{a-number, a-grade, is-letter}
 use Rattle.lines.specs.Reading.{forms, form-in, field}
 use Rattle.fields.specs.declared.numbers.Field.the-variants.{Number}
+use Rattle.fields.specs.declared.grades.GradeField.the-variants.{Is}
 use Rattle.reading.specs.Answers.{asked-result}
 use Rattle.fields.specs.Numbers.{field-result, field-read}
+use Rattle.fields.specs.Grades.{grade-result}
 use Rattle.reading.specs.Inner.Parts.{form-read, after-letter}
 use Rattle.reading.proofs.FieldByField.{bad-field, good-field, no-more-fields}
 use Rattle.reading.proofs.read_admit.Statement.{statement}
@@ -21,10 +23,10 @@ second : (c : tie.After-number-field2)
 second c = c .number-field2 .ensures ∙ ap (field-read a-number) (c .before .nth-field2 .ensures)
 
 third : (c : tie.After-grade-field)
-    → field-result (c .grade-field .result) ≡ field-read a-grade (field 3 (c .before .before .before .before .before .before .before .before .before .before .before .before .before .args .line .now))
+    → grade-result (c .grade-field .result) ≡ field-read a-grade (field 3 (c .before .before .before .before .before .before .before .before .before .before .before .before .before .args .line .now))
 third c = c .grade-field .ensures ∙ ap (field-read a-grade) (c .before .nth-field3 .ensures)
 
--- past its test a field is a number
+-- past its test a field is a number, or a grade
 ticket : (c : tie.After-ticket)
     → field-result (Number (c .ticket .given .0 .0)) ≡ field-read a-number (field 1 (c .before .before .before .before .before .args .line .now))
 ticket c = sym (ap field-result (c .ticket .given .1)) ∙ first (c .before .before)
@@ -34,8 +36,8 @@ laxity : (c : tie.After-laxity)
 laxity c = sym (ap field-result (c .laxity .given .1)) ∙ second (c .before .before)
 
 grade : (c : tie.After-grade)
-    → field-result (Number (c .grade .given .0 .0)) ≡ field-read a-grade (field 3 (c .before .before .before .before .before .before .before .before .before .before .before .before .before .before .before .args .line .now))
-grade c = sym (ap field-result (c .grade .given .1)) ∙ third (c .before .before)
+    → grade-result (Is (c .grade .given .0 .0)) ≡ field-read a-grade (field 3 (c .before .before .before .before .before .before .before .before .before .before .before .before .before .before .before .args .line .now))
+grade c = sym (ap grade-result (c .grade .given .1)) ∙ third (c .before .before)
 
 nth-field-requires : tie.Need-nth-field-requires
 nth-field-requires c κs = search needs
@@ -50,7 +52,7 @@ enum-told : tie.Need-enum-told
 enum-told c = search needs
 
 returns : tie.Need-returns
-unfolding after-letter form-read form-in forms is-letter letter-A letter-D asked-result
+unfolding after-letter form-read form-in forms is-letter letter-A letter-D asked-result field-result grade-result
 returns c = bad-field _ _ _ _ _ (sym (ap field-result (c .enum-told .given .1)) ∙ first (c .before .before))
 
 nth-field-requires-2 : tie.Need-nth-field-requires-2
@@ -66,7 +68,7 @@ enum-told-2 : tie.Need-enum-told-2
 enum-told-2 c = search needs
 
 returns-2 : tie.Need-returns-2
-unfolding after-letter form-read form-in forms is-letter letter-A letter-D asked-result
+unfolding after-letter form-read form-in forms is-letter letter-A letter-D asked-result field-result grade-result
 returns-2 c =
     let m = c .before .before in
     bad-field _ _ _ _ _ (sym (ap field-result (c .enum-told2 .given .1)) ∙ second m) ∙ good-field _ _ _ _ _ _ (ticket (m .before .before .before))
@@ -84,15 +86,15 @@ enum-told-3 : tie.Need-enum-told-3
 enum-told-3 c = search needs
 
 returns-3 : tie.Need-returns-3
-unfolding after-letter form-read form-in forms is-letter letter-A letter-D asked-result
+unfolding after-letter form-read form-in forms is-letter letter-A letter-D asked-result field-result grade-result
 returns-3 c =
     let m = c .before .before in
     let w = m .before .before .before in
     let t = w .before .before .before .before .before in
-    bad-field _ _ _ _ _ (sym (ap field-result (c .enum-told3 .given .1)) ∙ third m) ∙ good-field _ _ _ _ _ _ (laxity w) ∙ good-field _ _ _ _ _ _ (ticket t)
+    bad-field _ _ _ _ _ (sym (ap grade-result (c .enum-told3 .given .1)) ∙ third m) ∙ good-field _ _ _ _ _ _ (laxity w) ∙ good-field _ _ _ _ _ _ (ticket t)
 
 returns-4 : tie.Need-returns-4
-unfolding after-letter form-read form-in forms is-letter letter-A letter-D asked-result
+unfolding after-letter form-read form-in forms is-letter letter-A letter-D asked-result field-result grade-result
 returns-4 c =
     let g = c .before in
     let w = g .before .before .before .before .before in

@@ -11,6 +11,7 @@ use Rattle.claims.proofs.Tallying.InBalance.{balance}
 use Rattle.lines.proofs.ByteByByte.{byte-by-byte}
 use Rattle.lines.proofs.NeverMet.{never-met}
 use Rattle.lines.proofs.NeverMet.MayMeet.{opened-shallow}
+use Rattle.lines.proofs.BlankGrade.{blank-grade}
 use Rattle.theorems.proofs.theorems.Statement.{statement}
 use Rattle.theorems.proofs.theorems.Tie as tie
 
@@ -29,6 +30,7 @@ returns c =
       free-place = free-place;
       byte-by-byte = byte-by-byte;
       never-met = never-met;
+      blank-grade = blank-grade;
     }
 
 pub theorems-spec : {M : Type 1} → statement M
