@@ -19,7 +19,7 @@ use Rattle.board.specs.Admit.{admit-number, admitted}
 use Rattle.lines.specs.Bytes.{Bytes}
 use Rattle.lines.specs.Fields.{grade-meant}
 use Rattle.lines.specs.Reading.{line-number, admit-job, request}
-use Rattle.lines.specs.Session.{Answer, Step, an-admitting, is-open, step-refused, step-admit, when-open, step-request, step-if, step}
+use Rattle.lines.specs.Session.{Step, is-open, step-refused, step-admit, when-open, step-request, step-if, step}
 use Rattle.lines.specs.NeverMet.{number-of}
 use Rattle.lines.specs.BlankGrade.{Worst, BlankGrade}
 use Rattle.lines.proofs.NeverMet.MayMeet.{first-passes, admitted-number, from-11}

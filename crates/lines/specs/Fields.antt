@@ -38,7 +38,7 @@ unfoldable pub readable-as : Kind → Bytes → Bool
 readable-as a-number f = is-number f
 readable-as a-grade f = is-blank f || is-number f
 
--- what such a field is read as: a number, or none for a blank grade
+-- what such a field is read as: a number; for a grade none where it is blank
 abbrev pub ReadAs : Kind → Type 0
 ReadAs a-number = ℕ
 ReadAs a-grade = Option ℕ
@@ -47,7 +47,8 @@ unfoldable pub value-as : (k : Kind) → Bytes → ReadAs k
 value-as a-number f = value f
 value-as a-grade f = cond (is-blank f) none (some (value f))
 
--- The grade that is meant on a board of this depth. 02, One: 'A blank grade now means the worst grade of the open depth, 2^D − 1.'
+-- The grade that is meant on a board of this depth. 02, One: 'A blank grade now means the worst grade of the open depth, 2^D − 1. At depth 0 that is
+-- still 0.'
 unfoldable pub grade-meant : (depth : ℕ) → Option ℕ → ℕ
 grade-meant d none = 2 ^ d - 1
 grade-meant d (some g) = g

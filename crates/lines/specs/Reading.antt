@@ -9,7 +9,7 @@ use Rattle.board.specs.Rows.{Row, _if_, first-given}
 use Rattle.lines.specs.Bytes.{Bytes, fields, letter-A, letter-B, letter-D}
 use Rattle.lines.specs.Fields.{Kind, a-number, a-grade, readable-as, ReadAs, value-as, is-letter}
 
--- what a line asks for that none of rows 11 to 15 refuses
+-- what a line asks for that none of rows 11 to 15 refuses; a grade is none where it is blank
 pub data Request : Type 0 where
   open-board : (depth : ℕ) → Request
   admit-job : (ticket laxity : ℕ) (grade : Option ℕ) → Request

@@ -20,7 +20,7 @@ grade-count-requires : tie.Need-grade-count-requires
 grade-count-requires c κs = search needs
 
 sub-result : tie.Need-sub-result
-sub-result c = subst (1 ≤_) (sym (c .grade-count .ensures)) (pow-pos _)
+sub-result c = subst (λ n. 1 ≤ n) (sym (c .grade-count .ensures)) (pow-pos _)
 
 returns : tie.Need-returns
 unfolding grade-meant grade-of
@@ -30,7 +30,7 @@ returns-2 : tie.Need-returns-2
 unfolding grade-meant grade-of
 returns-2 c =
     let d = min (c .before .before .before .args .depth) deepest in
-    ap (_- 1) (c .grade-count .ensures) ∙ ap (λ (g : Grade). grade-meant d (grade-of g)) (sym (c .before .enum-told .given .1))
+    ap (λ n. n - 1) (c .grade-count .ensures) ∙ ap (λ (g : Grade). grade-meant d (grade-of g)) (sym (c .before .enum-told .given .1))
 
 pub grade-meant-spec : {M : Type 1} → statement M
 grade-meant-spec =
