@@ -92,7 +92,7 @@ unfoldable pub when-open : Option Board → (Board → Step) → Step
 when-open none f = step-refused none 0
 when-open (some b) f = f b
 
--- a request that rows 11 to 15 let through
+-- a request that rows 11 to 15 let through; a job is admitted with the grade that is meant on the open board
 unfoldable pub step-request : Option Board → Request → Step
 step-request o (open-board d) = step-open o d
 step-request o (admit-job t w g) = when-open o (λ b. step-admit b t w (grade-meant (b .depth) g))
