@@ -1,6 +1,7 @@
 -- `grade_meant` answers the number, or one less than there are grades.
 use mathlib.Core.Path.{sym, ap, _∙_, subst}
 use Prim.Native.Nat.{_-_, _≤_, min}
+use native.Mathlib.Omega.{arith}
 use borrow.Author.Needs.{needs}
 use lib.Pow.{pow-pos}
 use Rattle.board.specs.Limits.{deepest}
@@ -19,8 +20,12 @@ enum-told c = search needs
 grade-count-requires : tie.Need-grade-count-requires
 grade-count-requires c κs = search needs
 
+-- a depth has a grade
+positive : (c : tie.After-grade-count) → 1 ≤ c .grade-count .result
+positive c = subst (λ n. 1 ≤ n) (sym (c .grade-count .ensures)) (pow-pos _)
+
 sub-result : tie.Need-sub-result
-sub-result c = subst (λ n. 1 ≤ n) (sym (c .grade-count .ensures)) (pow-pos _)
+sub-result c = omega (arith, positive c)
 
 returns : tie.Need-returns
 unfolding grade-meant grade-of
