@@ -4,7 +4,7 @@ use mathlib.Core.Bool.{Bool, true, false, not, cond}
 use mathlib.Core.List.{_∷_}
 use mathlib.Core.Logic.{_⊎_, inl, inr}
 use mathlib.Core.Option.{Option, none, some}
-use Prim.Native.Nat.{ℕ, zero, suc, _^_, _≤_}
+use Prim.Native.Nat.{ℕ, zero, suc, _^_, _≤_, _<_}
 use native.Mathlib.Omega.{arith}
 use lib.Dec.{eqb}
 use lib.Pow.{pow-pos}
@@ -31,15 +31,6 @@ worst d = record { in-depth = omega (arith, pow-pos d); none-worse = λ g h. ome
 abbrev not-6 : ℕ → Bool
 not-6 n = not (eqb n 6)
 
--- rows 2 to 7 do not give it
-row-6-passed : (b : Board) (t w : ℕ) → not-6 (admitted b t w (grade-meant (b .depth) none) .refusal) ≡ true
-unfolding admit-number admit-rows every _if_
-row-6-passed b t w =
-    let g = grade-meant (b .depth) none in
-    ap not-6 (admitted-number b t w g)
-    ∙ first-passes not-6 refl (2 if not (sound b) ∷ admit-rows (slot-of b) (b .highest) (in-slot b) (b .depth) t w g)
-    (simp (lt-leb (2 ^ b .depth) g (worst (b .depth) .in-depth)))
-
 -- a step that is not refused with 6
 record Passes (a : Step) : Type 0 where
   number : not-6 (number-of (a .answer)) ≡ true
@@ -48,11 +39,22 @@ either : (c : Bool) (a r : Step) → Passes a → Passes r → Passes (cond c a 
 either true a r p q = p
 either false a r p q = q
 
+-- rows 2 to 7 do not give it for a grade of the depth
+module _ (b : Board) (t w g : ℕ) (h : g < 2 ^ b .depth) where
+  row-6-passed : not-6 (admitted b t w g .refusal) ≡ true
+  unfolding admit-number admit-rows every _if_
+  row-6-passed =
+      ap not-6 (admitted-number b t w g)
+      ∙ first-passes not-6 refl (2 if not (sound b) ∷ admit-rows (slot-of b) (b .highest) (in-slot b) (b .depth) t w g) (simp (lt-leb (2 ^ b .depth) g h))
+
+  admit-passes : Passes (step-admit b t w g)
+  unfolding step-admit step-refused number-of
+  admit-passes = either (eqb (admitted b t w g .refusal) 0) _ _ (record { number = refl }) (record { number = row-6-passed })
+
 asked : (o : Option Board) (t w : ℕ) → Passes (step-request o (admit-job t w none))
-unfolding step-request when-open step-admit step-refused number-of
+unfolding step-request when-open step-refused number-of
 asked none t w = record { number = refl }
-asked (some b) t w =
-    either (eqb (admitted b t w (grade-meant (b .depth) none) .refusal) 0) _ _ (record { number = refl }) (record { number = row-6-passed b t w })
+asked (some b) t w = admit-passes b t w _ (worst (b .depth) .in-depth)
 
 -- neither do rows 11 to 15
 passes : (o : Option Board) (l : Bytes) (t w : ℕ) → request l ≡ admit-job t w none → Passes (step o l)

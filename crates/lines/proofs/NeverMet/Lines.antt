@@ -7,7 +7,6 @@ use Rattle.lists.proofs.Tests.{never}
 use Rattle.board.specs.declared.Board.{Board}
 use Rattle.board.specs.declared.Tally.{Tally}
 use Rattle.lines.specs.Bytes.{Bytes}
-use Rattle.lines.specs.Fields.{grade-meant}
 use Rattle.lines.specs.Reading.{line-number, Request, open-board, admit-job, close-slot, request}
 use Rattle.lines.specs.Session.{is-open, when-open, step-request, step-if, step}
 use Rattle.lines.proofs.InTurn.{needs-open, in-turn}
@@ -22,7 +21,7 @@ requested none y h (open-board d) e = goes-open none y h h d
 requested none y h (admit-job t w g) e = never refl e
 requested none y h close-slot e = never refl e
 requested (some b) y h (open-board d) e = never e refl
-requested (some b) y h (admit-job t w g) e = goes-admit b y h t w (grade-meant (b .depth) g)
+requested (some b) y h (admit-job t w g) e = goes-admit b y h t w _
 requested (some b) y h close-slot e = goes-close b y h
 
 pub goes-line : (o : Option Board) (y : Tally) → InRun o y → (l : Bytes) → Goes y (step o l)
