@@ -9,6 +9,7 @@
 pub mod board;
 pub mod book;
 pub mod calls;
+pub mod day;
 pub mod draw;
 pub mod edges;
 pub mod inputs;
@@ -22,5 +23,6 @@ pub mod refusal;
 pub mod rows;
 pub mod rule;
 pub mod samples;
+pub mod sheet;
 pub mod soundness;
 pub mod tally;

@@ -26,3 +26,9 @@ pub const MOST_GRADES: usize = 1 << DEEPEST;
 
 /// Most digits of a field.
 pub const MOST_DIGITS: usize = 10;
+
+/// Slots on a page of the sheet.
+pub const SLOTS_ON_PAGE: usize = 48;
+
+/// Most racks given up that a line of the sheet takes.
+pub const MOST_GIVEN_UP: u32 = 255;

@@ -1,21 +1,23 @@
 //! The printed lines, each without its end.
 
 use crate::calls::Closed;
+use crate::day::{Day, Done};
 use crate::refusal::Refusal;
 use crate::tally::{Tally, ADMITTED, BAKED, EXPIRED};
 
-/// D: a board was opened.
-pub fn opened(depth: u32) -> String {
-    format!("D,{depth}")
-}
-
-/// A: a rack was admitted.
-pub fn admitted(ticket: u32, deadline: u32) -> String {
-    format!("A,{ticket},{deadline}")
+/// The lines for what a line did.
+pub fn done(done: &Done) -> Vec<String> {
+    match done {
+        // D: a board was opened.
+        Done::Opened { depth } => vec![format!("D,{depth}")],
+        // A: a rack was admitted.
+        Done::Admitted { ticket, deadline } => vec![format!("A,{ticket},{deadline}")],
+        Done::Closed { slot, closed } => closing(*slot, closed),
+    }
 }
 
 /// B: a slot was closed; then G for each rack given up.
-pub fn closed(slot: u32, closed: &Closed) -> Vec<String> {
+fn closing(slot: u32, closed: &Closed) -> Vec<String> {
     let given_up = closed.expired.len();
     let (ticket, grade) = (closed.ticket, closed.grade);
     let mut lines = vec![format!("B,{slot},{ticket},{grade},{given_up}")];
@@ -30,8 +32,18 @@ pub fn refused(line_number: u64, refusal: Refusal) -> String {
     format!("R,{},{}", line_number, refusal.number())
 }
 
+/// The T lines, one a grade of the open board; none where no board is open.
+pub fn totals(day: &Day) -> Vec<String> {
+    let grades = match &day.board {
+        Some(board) => 1u32 << board.depth,
+        None => 0,
+    };
+    let grades = 0..grades;
+    grades.map(|grade| total(&day.tally, grade)).collect()
+}
+
 /// T: the tally of a grade.
-pub fn total(tally: &Tally, grade: u32) -> String {
+fn total(tally: &Tally, grade: u32) -> String {
     let admitted = tally.count(ADMITTED, grade);
     let baked = tally.count(BAKED, grade);
     let expired = tally.count(EXPIRED, grade);

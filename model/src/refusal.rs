@@ -1,6 +1,6 @@
 //! The refusals and their numbers.
 
-/// Why a call or a line was refused; the value is the paper's number.
+/// Why a call, a line or a closing for the sheet was refused; the value is the paper's number.
 #[derive(Clone, Copy, Debug, PartialEq, Eq, PartialOrd, Ord)]
 pub enum Refusal {
     /// Opening: depth above 3.
@@ -33,6 +33,8 @@ pub enum Refusal {
     Field = 14,
     /// Line: D while a board is open, A or B while none is.
     NotNow = 15,
+    /// Sheet: a slot above 1,000,000, a grade above 7 or more than 255 given up.
+    OffSheet = 16,
 }
 
 impl Refusal {

@@ -1,8 +1,9 @@
 //! The tally's balance: admitted = baked + given up + racks on the board.
 
+use model::day::Day;
 use model::draw::Draw;
 use model::inputs;
-use model::program::{run, Day};
+use model::program::run;
 use model::samples::{self, Crowd};
 use model::tally::{ADMITTED, BAKED, EXPIRED};
 

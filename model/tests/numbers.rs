@@ -13,6 +13,8 @@ fn limits_are_the_papers() {
     assert_eq!(limits::DEEPEST, 3);
     assert_eq!(limits::MOST_GRADES, 8);
     assert_eq!(limits::MOST_DIGITS, 10);
+    assert_eq!(limits::SLOTS_ON_PAGE, 48);
+    assert_eq!(limits::MOST_GIVEN_UP, 255);
 }
 
 #[test]

@@ -55,9 +55,10 @@ fn numbers_are_the_papers() {
         Refusal::FieldCount,
         Refusal::Field,
         Refusal::NotNow,
+        Refusal::OffSheet,
     ];
     let numbers: Vec<u32> = all.iter().map(|refusal| refusal.number()).collect();
-    assert_eq!(numbers, (1..=15).collect::<Vec<u32>>());
+    assert_eq!(numbers, (1..=16).collect::<Vec<u32>>());
 }
 
 #[test]

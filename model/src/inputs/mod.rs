@@ -1,6 +1,7 @@
 //! Inputs for the program, made from a kind, a seed and a size alone.
 
 mod days;
+mod pages;
 mod spoilt;
 mod writer;
 
@@ -18,7 +19,7 @@ pub struct Kind {
 }
 
 /// All kinds.
-pub const KINDS: [Kind; 11] = [
+pub const KINDS: [Kind; 12] = [
     Kind {
         name: "ordinary",
         about: "ordinary days, about as many racks as slots",
@@ -84,6 +85,12 @@ pub const KINDS: [Kind; 11] = [
         about: "days of all sorts with wrong, damaged and overlong lines",
         size: 200,
         make: spoilt::mixed,
+    },
+    Kind {
+        name: "pages",
+        about: "so many closings exactly; from 37 on a slot gives up 255 racks",
+        size: 97,
+        make: pages::pages,
     },
 ];
 

@@ -87,7 +87,7 @@ pub fn refusals(draw: &mut Draw, lines: u32) -> Vec<u8> {
 }
 
 /// A line that is refused while no board is open, whatever came before.
-fn wrong_before_opening(draw: &mut Draw, writer: &mut Writer) -> Vec<u8> {
+pub fn wrong_before_opening(draw: &mut Draw, writer: &mut Writer) -> Vec<u8> {
     match draw.between(0, 3) {
         0 => {
             let depth = draw.pick(&[4, 5, 9, 255, 256, u32::MAX]);
@@ -103,6 +103,20 @@ fn wrong_before_opening(draw: &mut Draw, writer: &mut Writer) -> Vec<u8> {
 /// open it is refused too, as it never opens one.
 fn wrong_line(draw: &mut Draw, writer: &mut Writer) -> Vec<u8> {
     match draw.between(0, 5) {
+        5 => doubtful_admitting(draw, writer),
+        sort => refused_of(draw, writer, sort),
+    }
+}
+
+/// A line that is refused, whether a board is open or not.
+pub fn refused_line(draw: &mut Draw, writer: &Writer) -> Vec<u8> {
+    let sort = draw.between(0, 4);
+    refused_of(draw, writer, sort)
+}
+
+/// A refused line of one of five sorts, 0 to 4.
+fn refused_of(draw: &mut Draw, writer: &Writer, sort: u32) -> Vec<u8> {
+    match sort {
         0 => draw.pick(LETTERS).as_bytes().to_vec(),
         1 => wrong_count(draw),
         2 => wrong_field(draw, writer),
@@ -111,8 +125,7 @@ fn wrong_line(draw: &mut Draw, writer: &mut Writer) -> Vec<u8> {
             let depth = draw.between(DEEPEST + 1, 20);
             format!("D,{depth}").into_bytes()
         }
-        4 => overlong_line(draw),
-        _ => doubtful_admitting(draw, writer),
+        _ => overlong_line(draw),
     }
 }
 
@@ -233,7 +246,7 @@ fn damage(draw: &mut Draw, line: &mut Vec<u8>) {
 }
 
 /// The bytes, half of the time without their last line end.
-fn without_last_end(draw: &mut Draw, mut bytes: Vec<u8>) -> Vec<u8> {
+pub fn without_last_end(draw: &mut Draw, mut bytes: Vec<u8>) -> Vec<u8> {
     if bytes.last() == Some(&b'\n') && draw.one_in(2) {
         bytes.pop();
     }

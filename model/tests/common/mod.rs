@@ -3,6 +3,8 @@
 // Each test file uses its own part of this.
 #![allow(dead_code)]
 
+pub mod paper;
+
 use model::board::{open, Board, Job};
 use model::book::Book;
 use model::calls::{admit, Closed};
