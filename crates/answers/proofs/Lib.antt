@@ -1,5 +1,3 @@
-pub mod Pieces
-pub mod Buffers
 pub mod Room
 pub mod Jobs
 pub mod Tallies

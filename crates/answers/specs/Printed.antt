@@ -1,16 +1,13 @@
 -- An answer as the code holds it, and what is printed where there is room for it.
-use mathlib.Core.Path.{_≡_}
-use mathlib.Core.Bool.{Bool, cond, _&&_}
+use mathlib.Core.Bool.{Bool, _&&_}
 use mathlib.Core.List.{List, [], _∷_}
-use Prim.Native.Nat.{ℕ, _+_, _*_, _≤_}
+use Prim.Native.Nat.{ℕ, _+_, _*_}
 use lib.Dec.{eqb, leb}
-use lib.ListN.{length}
 use Rattle.board.specs.declared.Slot.{Slot}
 use Rattle.board.specs.Limits.{places-held}
 use Rattle.board.specs.Tally.{tally-grades}
-use Rattle.lines.specs.Bytes.{Bytes}
 use Rattle.lines.specs.Session.{Named, Closing, Answer, a-refusal, an-opening, an-admitting, a-closing}
-use Rattle.printing.specs.Lines.{room, put}
+use Rattle.printing.specs.Lines.{room}
 use Rattle.answers.specs.declared.Answer.{Answer as AnswerHeld}
 use Rattle.answers.specs.declared.Answer.the-variants.{Refused, Opened, Admitted, Closed}
 
@@ -46,9 +43,3 @@ tally-room = tally-grades * room
 
 unfoldable pub tally-fits : (grades at end : ℕ) → Bool
 tally-fits n at end = leb n tally-grades && leb (at + tally-room) end
-
--- bytes put at `at` in the buffer, so many at the most, and the end behind them; where they do not fit the buffer is as it was, and the end is `at`
-pub record PutIf (fits : Bool) (most : ℕ) (bs out : Bytes) (at r : ℕ) (out' : Bytes) : Type 0 where
-  pub end : r ≡ cond fits (at + length bs) at
-  pub within : r ≤ at + most
-  pub bytes : out' ≡ cond fits (put out at bs) out

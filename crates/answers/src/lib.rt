@@ -1,14 +1,14 @@
 // What the program prints: an answer's lines, and the tally's.
 ghost use mathlib.Core.Path.{_≡_};
 ghost use Prim.Native.Nat.{_+_, _*_, _≤_, _<_};
-ghost use lib.Dec.{leb};
 ghost use lib.ListN.{length};
 ghost use Rattle.board.specs.Tally.{tally-kinds, tally-grades, count-at};
 ghost use Rattle.lines.specs.Printing.{printed};
 ghost use Rattle.lines.specs.Output.{printed-given-up, printed-closing, printed-answer, printed-tally};
 ghost use Rattle.printing.specs.Lines.{line-numbers, room};
-ghost use Rattle.answers.specs.Printed.{jobs-of, closing-of, answer-of, answer-room, answer-fits, tally-room, tally-fits, PutIf};
-ghost use Rattle.answers.specs.Inner.Put.{PutWithin, Fits};
+ghost use Rattle.printing.specs.Puts.{PutWithin, PutIf};
+ghost use Rattle.answers.specs.Printed.{jobs-of, closing-of, answer-of, answer-room, answer-fits, tally-room, tally-fits};
+ghost use Rattle.answers.specs.Inner.Fits.{Fits};
 use board::Board;
 use board::Slot;
 use board::Tally;
@@ -89,16 +89,6 @@ fn print_closing(
     print_given_up(slot, tickets, grades, out, mid)
 }
 
-// Whether so many bytes end at `end` or before where they start at `at`.
-fn room_for(most: usize, at: usize, end: usize) -> bool
-    ensures { λ r. ⌜ r ≡ leb (at + most) end ⌝ }
-{
-    if end < at {
-        return false;
-    }
-    most <= end - at
-}
-
 // Whether an answer may be printed: with no more jobs than a board holds, as many grades as tickets, and room for any answer.
 fn answer_fits(tickets: usize, grades: usize, at: usize, end: usize) -> bool
     ensures { λ r. ⌜ r ≡ answer-fits tickets grades at end ⌝ }
@@ -109,7 +99,7 @@ fn answer_fits(tickets: usize, grades: usize, at: usize, end: usize) -> bool
     if grades != tickets {
         return false;
     }
-    room_for(ANSWER_ROOM, at, end)
+    printing::room_for(ANSWER_ROOM, at, end)
 }
 
 // Prints an answer where there is room for any.
@@ -200,7 +190,7 @@ pub fn print_tally(t: Tally, grades: usize, out: &mut [u8], at: usize) -> usize
     if Tally::GRADES < grades {
         return at;
     }
-    if !room_for(TALLY_ROOM, at, out.len()) {
+    if !printing::room_for(TALLY_ROOM, at, out.len()) {
         return at;
     }
     print_grades(t, grades, out, at)

@@ -1,7 +1,12 @@
 pub mod Cutting
+pub mod Decimals
 pub mod InTurn
 pub mod LongLines
-pub mod Answers
-pub mod ByteByByte
 pub mod NeverMet
 pub mod BlankGrade
+pub mod Sheets
+pub mod ClosingsFit
+pub mod PagesAlong
+pub mod Answers
+pub mod ByteByByte
+pub mod SheetReadBack

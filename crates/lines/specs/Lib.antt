@@ -4,6 +4,9 @@ pub mod Reading
 pub mod Printing
 pub mod Session
 pub mod Output
+pub mod Sheet
+pub mod Printers
 pub mod Machine
 pub mod NeverMet
 pub mod BlankGrade
+pub mod SheetReadBack

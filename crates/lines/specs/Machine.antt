@@ -9,16 +9,16 @@ use lib.ListN.{length}
 use Rattle.lines.specs.Bytes.{Bytes, line-end}
 use Rattle.lines.specs.Reading.{longest-line, too-long}
 use Rattle.lines.specs.Session.{Session, new-session, Answer, Step, step, session-after, run}
-use Rattle.lines.specs.Output.{printed-answers, at-end, output}
+use Rattle.lines.specs.Printers.{Program, whole-output, Printer, new-printer, answers-printed, printer-after, end-printed}
 
--- the session, the number of the line that is being read, and its bytes so far
+-- the session, what the program's printer knows, and the bytes so far of the line that is being read
 pub record Machine : Type 0 where
   pub session : Session
-  pub number : ℕ
+  pub printer : Printer
   pub partial : Bytes
 
-unfoldable pub new-machine : Machine
-new-machine = record { session = new-session; number = 1; partial = [] }
+unfoldable pub new-machine : Program → Machine
+new-machine g = record { session = new-session; printer = new-printer g; partial = [] }
 
 -- the line so far with a byte more
 unfoldable pub extend : ℕ → Bytes → Bytes
@@ -39,8 +39,8 @@ answered-by m b = cond (eqb b line-end) (line-step m .answer ∷ []) []
 unfoldable pub after-byte : Machine → ℕ → Machine
 after-byte m b =
     cond (eqb b line-end)
-    (record { session = session-after (m .session) (line-step m); number = suc (m .number); partial = [] })
-    (record { session = m .session; number = m .number; partial = extend b (m .partial) })
+    (record { session = session-after (m .session) (line-step m); printer = printer-after (m .printer) (line-step m .answer); partial = [] })
+    (record { session = m .session; printer = m .printer; partial = extend b (m .partial) })
 
 -- bytes one after the other
 unfoldable pub after-bytes : Machine → Bytes → Machine
@@ -58,18 +58,22 @@ last-answers m = cond (eqb (length (m .partial)) 0) [] (line-step m .answer ∷ 
 unfoldable pub last-session : Machine → Session
 last-session m = cond (eqb (length (m .partial)) 0) (m .session) (session-after (m .session) (line-step m))
 
+-- the printer after the last line
+unfoldable pub last-printer : Machine → Printer
+last-printer m = cond (eqb (length (m .partial)) 0) (m .printer) (printer-after (m .printer) (line-step m .answer))
+
 -- what the program prints along bytes, and at the end of input
 unfoldable pub printed-along : Machine → Bytes → Bytes
-printed-along m bs = printed-answers (m .number) (answers-along m bs)
+printed-along m bs = answers-printed (m .printer) (answers-along m bs)
 
 unfoldable pub printed-at-end : Machine → Bytes
-printed-at-end m = printed-answers (m .number) (last-answers m) ++ at-end (last-session m .board) (last-session m .tally)
+printed-at-end m = answers-printed (m .printer) (last-answers m) ++ end-printed (last-printer m) (last-session m)
 
--- bytes one after the other, and then the end of input, are answered as the whole input is, and print its output
-pub record AsTheWhole (input : Bytes) (m : Machine) : Type 0 where
-  pub answers : run input .answers ≡ answers-along new-machine input ++ last-answers m
+-- bytes one after the other, and then the end of input, are answered as the whole input is, and print the program's output
+pub record AsTheWhole (g : Program) (input : Bytes) (m : Machine) : Type 0 where
+  pub answers : run input .answers ≡ answers-along (new-machine g) input ++ last-answers m
   pub session : run input .session ≡ last-session m
-  pub printed : output input ≡ printed-along new-machine input ++ printed-at-end m
+  pub printed : whole-output g input ≡ printed-along (new-machine g) input ++ printed-at-end m
 
 unfoldable pub ByteByByte : Type 0
-ByteByByte = (input : Bytes) → AsTheWhole input (after-bytes new-machine input)
+ByteByByte = (g : Program) (input : Bytes) → AsTheWhole g input (after-bytes (new-machine g) input)

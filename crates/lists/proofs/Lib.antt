@@ -1,5 +1,6 @@
 pub mod Tests
 pub mod Members
+pub mod Every
 pub mod Counting
 pub mod Least
 pub mod Rising

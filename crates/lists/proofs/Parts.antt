@@ -1,11 +1,12 @@
 -- Rising lists and parts of lists.
-use mathlib.Core.Path.{_≡_, refl, ap, _∙_}
+use mathlib.Core.Path.{_≡_, refl, sym, ap, _∙_}
 use mathlib.Core.Bool.{Bool, true, false, cond}
 use mathlib.Core.List.{List, [], _∷_, _++_, map, List·Memᴰ, List·Memᴰ·head, List·Memᴰ·tail, List·Memᴰ·not-nil}
-use Prim.Native.Nat.{ℕ, zero, suc, _-_, _≤_}
+use Prim.Native.Nat.{ℕ, zero, suc, _-_, _≤_, _<_}
 use native.Mathlib.Omega.{arith}
 use lib.Dec.{leb, ltb}
-use lib.ListN.{drop, replicate}
+use lib.ListN.{length, getD, take, drop, replicate}
+use lib.Seq.{take-nil}
 use borrow.Author.Tests.{ltb-true, lt-ltb, leb-true, le-leb}
 use Rattle.lists.specs.Select.{select}
 use Rattle.lists.specs.Rise.{rise, never-fall}
@@ -85,3 +86,16 @@ pub drop-replicate : {A : Type 0} (k n : ℕ) (a : A) → drop k (replicate n a)
 drop-replicate zero n a = let e : n ≡ n - zero = omega arith in ap (λ m. replicate m a) e
 drop-replicate (suc k) zero a = let e : zero ≡ zero - suc k = omega arith in ap (λ m. replicate m a) e
 drop-replicate (suc k) (suc n) a = let e : n - k ≡ suc n - suc k = omega arith in drop-replicate k n a ∙ ap (λ m. replicate m a) e
+
+-- the first n without the first k: n - k of those that are left
+pub drop-take : {A : Type 0} (k n : ℕ) (l : List A) → drop k (take n l) ≡ take (n - k) (drop k l)
+drop-take zero n l = let e : n ≡ n - zero = omega arith in ap (λ m. take m l) e
+drop-take (suc k) zero l = let e : zero ≡ zero - suc k = omega arith in ap (λ m. take m (drop (suc k) l)) e
+drop-take (suc k) (suc n) [] = sym (take-nil (suc n - suc k))
+drop-take (suc k) (suc n) (a ∷ l) = let e : n - k ≡ suc n - suc k = omega arith in drop-take k n l ∙ ap (λ m. take m (drop k l)) e
+
+-- what a function makes of the element at a place of the list
+pub map-at : {A B : Type 0} (f : A → B) (l : List A) (i : ℕ) (d : A) (e : B) → i < length l → getD (map f l) i e ≡ f (getD l i d)
+map-at f [] i d e h = absurd (omega arith)
+map-at f (a ∷ l) zero d e h = refl
+map-at f (a ∷ l) (suc i) d e h = map-at f l i d e (omega arith)

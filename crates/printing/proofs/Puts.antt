@@ -5,7 +5,7 @@ use Prim.Native.Nat.{ℕ, suc, _+_, _≤_, _<_}
 use native.Mathlib.Nat.{zero-add, add-zero}
 use native.Mathlib.Numerals.{add-one}
 use native.Mathlib.Omega.{arith}
-use lib.ListN.{length, take, drop, set, replicate, length-append, length-set, take-append-drop}
+use lib.ListN.{length, take, drop, set, replicate, length-append, length-set, length-drop, take-append-drop}
 use lib.Seq.{take-at, drop-at, drop-drop, take-set-le, drop-cons, drop-set-lt, set-split, getD-set-same, length-take-le, paste}
 use Rattle.lists.proofs.Parts.{drop-replicate}
 use Rattle.lines.specs.Bytes.{Bytes}
@@ -71,3 +71,16 @@ put-taken out at l n h = rw (parted out at (take n l), length-take-le n l h)
 pub put-line-of : (bs : Bytes) → put (replicate room 0) 0 bs ≡ line-of bs .bytes
 unfolding put line-of
 put-line-of bs = rw (drop-replicate, zero-add)
+
+-- the buffer is as long as before
+pub put-length : (out : Bytes) (at : ℕ) (bs : Bytes) → at + length bs ≤ length out → length (put out at bs) ≡ length out
+unfolding put
+put-length out at bs h =
+    let rest = drop (at + length bs) out in
+    omega (
+      arith,
+      length-append (take at out) (bs ++ rest),
+      length-append bs rest,
+      length-take-le at out (omega arith),
+      length-drop (at + length bs) out,
+    )

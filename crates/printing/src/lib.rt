@@ -1,6 +1,7 @@
 // One line of the program's output: a letter, numbers each behind a comma, and a line end; and its place in a buffer that the caller lends.
 ghost use mathlib.Core.Path.{_≡_};
 ghost use Prim.Native.Nat.{_+_, _≤_};
+ghost use lib.Dec.{leb};
 ghost use lib.ListN.{length, take};
 ghost use Rattle.lines.specs.Printing.{decimal, printed};
 ghost use Rattle.printing.specs.Lines.{line-numbers, line-digits, room, put, line-of, line-fits, with-line, end-after};
@@ -59,6 +60,16 @@ pub fn put_line(out: &mut [u8], at: usize, l: Line) -> usize
     at + len
 }
 
+// Whether so many bytes end at `end` or before where they start at `at`.
+pub fn room_for(most: usize, at: usize, end: usize) -> bool
+    ensures { λ r. ⌜ r ≡ leb (at + most) end ⌝ }
+{
+    if end < at {
+        return false;
+    }
+    most <= end - at
+}
+
 // Whether so many bytes are no more than a line holds, and end at `end` or before where they start at `at`.
 fn has_room(len: usize, at: usize, end: usize) -> bool
     ensures { λ r. ⌜ r ≡ line-fits len at end ⌝ }
@@ -66,10 +77,7 @@ fn has_room(len: usize, at: usize, end: usize) -> bool
     if Line::ROOM < len {
         return false;
     }
-    if end < at {
-        return false;
-    }
-    len <= end - at
+    room_for(len, at, end)
 }
 
 // Puts the digits of n at `at`, the last digit first; the new end.

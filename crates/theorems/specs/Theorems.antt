@@ -18,6 +18,7 @@ use Rattle.claims.specs.Balance.{Balance}
 use Rattle.lines.specs.Machine.{ByteByByte}
 use Rattle.lines.specs.NeverMet.{NeverMet}
 use Rattle.lines.specs.BlankGrade.{BlankGrade}
+use Rattle.lines.specs.SheetReadBack.{SheetReadBack}
 
 pub record Theorems : Type 0 where
   -- for every list of calls: no plan bakes more, and no rival does better by grade
@@ -39,9 +40,11 @@ pub record Theorems : Type 0 where
   pub sound-kept : (b : Board) (c : Call) → sound b ≡ true → sound (board-after b c) ≡ true
   -- a sound board with fewer than eight jobs of its slot has a free place
   pub free-place : (b : Board) → sound b ≡ true → in-slot b < most-in-slot → b .count < places-held
-  -- the program prints the whole output byte by byte, as it reads
+  -- each program prints its whole output byte by byte, as it reads
   pub byte-by-byte : ByteByByte
   -- the program never meets 2, 8, 9 or 10
   pub never-met : NeverMet
   -- a blank grade is the worst of the open depth, and is never refused with 6
   pub blank-grade : BlankGrade
+  -- the sheet, read back column by column, has the closings of the run, and each page its own totals
+  pub sheet-read-back : SheetReadBack

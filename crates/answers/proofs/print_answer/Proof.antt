@@ -5,7 +5,8 @@ use borrow.Author.Needs.{needs}
 use borrow.Author.Tests.{not-true, not-false}
 use lib.ListN.{length}
 use Rattle.answers.specs.Printed.{answer-fits}
-use Rattle.answers.proofs.Room.{put-fits, put-nothing, answer-fitting}
+use Rattle.printing.proofs.Fitting.{put-fits, put-nothing}
+use Rattle.answers.proofs.Room.{answer-fitting}
 use Rattle.answers.proofs.print_answer.Statement.{statement}
 use Rattle.answers.proofs.print_answer.Tie as tie
 

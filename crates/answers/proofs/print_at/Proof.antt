@@ -6,7 +6,7 @@ use borrow.Author.Needs.{needs}
 use lib.Seq.{take-all}
 use Rattle.lines.specs.Printing.{printed}
 use Rattle.printing.specs.Lines.{line-numbers, line-of}
-use Rattle.answers.proofs.Pieces.{line-printed}
+use Rattle.printing.proofs.Pieces.{line-printed}
 use Rattle.answers.proofs.print_at.Statement.{statement}
 use Rattle.answers.proofs.print_at.Tie as tie
 

@@ -13,7 +13,7 @@ use Rattle.lines.specs.Printing.{printed}
 use Rattle.lines.specs.Output.{tally-line, printed-tally}
 use Rattle.printing.specs.Lines.{room, put}
 use Rattle.answers.specs.Printed.{tally-room}
-use Rattle.answers.proofs.Pieces.{Left, all-left, fewer-left, none-left}
+use Rattle.printing.proofs.Pieces.{Left, all-left, fewer-left, none-left}
 use Rattle.answers.proofs.Tallies.{tally-next, tally-done}
 use Rattle.answers.proofs.print_grades.Statement.{statement}
 use Rattle.answers.proofs.print_grades.Tie as tie

@@ -10,7 +10,8 @@ use lib.ListN.{length}
 use Rattle.board.specs.Tally.{tally-grades}
 use Rattle.printing.specs.Lines.{room}
 use Rattle.answers.specs.Printed.{tally-room, tally-fits}
-use Rattle.answers.proofs.Room.{put-fits, put-nothing, tally-fitting}
+use Rattle.printing.proofs.Fitting.{put-fits, put-nothing}
+use Rattle.answers.proofs.Room.{tally-fitting}
 use Rattle.answers.proofs.print_tally.Statement.{statement}
 use Rattle.answers.proofs.print_tally.Tie as tie
 

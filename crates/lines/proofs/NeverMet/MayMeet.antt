@@ -59,7 +59,7 @@ admitted-number b t w g = go (admit-number b t w g)
     go zero = refl
     go (suc n) = refl
 
-closed-number : (b : Board) (lent : ℕ) → closed b lent .refusal ≡ close-number b lent
+pub closed-number : (b : Board) (lent : ℕ) → closed b lent .refusal ≡ close-number b lent
 unfolding closed closed-with
 closed-number b lent = go (close-number b lent)
   where

@@ -4,8 +4,9 @@ use mathlib.Core.Path.{_≡_}
 use native.Mathlib.Omega.{arith}
 use lib.ListN.{length}
 use Rattle.lines.specs.Printing.{decimal}
+use Rattle.lines.proofs.Decimals.{length-one, length-more, some-digit}
 use Rattle.printing.specs.Lines.{line-digits}
-use Rattle.printing.proofs.Decimals.{length-one, length-more, some-digit, few-digits}
+use Rattle.printing.proofs.Decimals.{few-digits}
 use Rattle.printing.proofs.digit_count.Statement.{statement}
 use Rattle.printing.proofs.digit_count.Tie as tie
 

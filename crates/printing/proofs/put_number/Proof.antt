@@ -6,8 +6,8 @@ use borrow.Author.Needs.{needs}
 use lib.ListN.{length, set, length-set}
 use Rattle.lines.specs.Bytes.{Bytes}
 use Rattle.lines.specs.Printing.{decimal}
+use Rattle.lines.proofs.Decimals.{decimal-one, decimal-more, length-one, length-more, some-digit}
 use Rattle.printing.specs.Lines.{put}
-use Rattle.printing.proofs.Decimals.{decimal-one, decimal-more, length-one, length-more, some-digit}
 use Rattle.printing.proofs.Puts.{put-one, put-last}
 use Rattle.printing.proofs.put_number.Statement.{statement}
 use Rattle.printing.proofs.put_number.Tie as tie

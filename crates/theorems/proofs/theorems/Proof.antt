@@ -12,6 +12,7 @@ use Rattle.lines.proofs.ByteByByte.{byte-by-byte}
 use Rattle.lines.proofs.NeverMet.{never-met}
 use Rattle.lines.proofs.NeverMet.MayMeet.{opened-shallow}
 use Rattle.lines.proofs.BlankGrade.{blank-grade}
+use Rattle.lines.proofs.SheetReadBack.{sheet-read-back}
 use Rattle.theorems.proofs.theorems.Statement.{statement}
 use Rattle.theorems.proofs.theorems.Tie as tie
 
@@ -31,6 +32,7 @@ returns c =
       byte-by-byte = byte-by-byte;
       never-met = never-met;
       blank-grade = blank-grade;
+      sheet-read-back = sheet-read-back;
     }
 
 pub theorems-spec : {M : Type 1} → statement M

@@ -5,11 +5,11 @@ use Prim.Native.Nat.{ℕ, _+_, _≤_}
 use native.Mathlib.Omega.{arith}
 use lib.ListN.{length, length-append}
 use Rattle.lines.specs.Bytes.{Bytes}
 use Rattle.printing.specs.Lines.{room, put, line-of, with-line, end-after}
 use Rattle.printing.specs.declared.Line.{Line}
 use Rattle.printing.proofs.Puts.{put-none, put-append}
 use Rattle.printing.proofs.Placed.{whole-placed, whole-end}
-use Rattle.answers.specs.Inner.Put.{PutWithin}
+use Rattle.printing.specs.Puts.{PutWithin}
 
 -- a line made and put
 pub line-printed : (out : Bytes) (at : ℕ) (bs : Bytes) (l : Line) (end : ℕ) (out' : Bytes) → at + room ≤ length out → l ≡ line-of bs → l .len ≤ room
@@ -51,6 +51,10 @@ put-behind {m} {n} {a} {b} {out} {mid} {out'} {at} {here} {end} h p q =
 -- no more than a greater number
 pub put-fewer : {m n : ℕ} {bs out : Bytes} {at r : ℕ} {out' : Bytes} → PutWithin m bs out at r out' → m ≤ n → PutWithin n bs out at r out'
 put-fewer p h = record { end = p .end; within = omega (arith, p .within); bytes = p .bytes }
+
+-- no bytes
+pub put-nil : (most : ℕ) (out : Bytes) (at : ℕ) → PutWithin most [] out at at out
+put-nil most out at = record { end = omega arith; within = omega arith; bytes = sym (put-none out at) }
 
 -- by another name
 pub put-as : {m : ℕ} {a b out : Bytes} {at r : ℕ} {out' : Bytes} → a ≡ b → PutWithin m b out at r out' → PutWithin m a out at r out'

@@ -1,11 +1,11 @@
--- `answers::room_for`: without a sum that could be too large. Assumes nothing.
+-- `room_for`: without a sum that could be too large.
 use mathlib.Core.Path.{sym}
 use Prim.Native.Nat.{_+_}
 use native.Mathlib.Omega.{arith}
 use borrow.Author.Tests.{lt-leb}
-use Rattle.answers.proofs.Room.{leb-difference}
-use Rattle.answers.proofs.room_for.Statement.{statement}
-use Rattle.answers.proofs.room_for.Tie as tie
+use Rattle.printing.proofs.Fitting.{leb-difference}
+use Rattle.printing.proofs.room_for.Statement.{statement}
+use Rattle.printing.proofs.room_for.Tie as tie
 
 returns : tie.Need-returns
 returns c =
