@@ -1,6 +1,7 @@
 -- The program's exit status.
 use mathlib.Core.Path.{_≡_}
 use Prim.Native.Nat.{ℕ}
+use Rattle.lines.specs.Printers.{Program}
 use Rattle.program.specs.declared.run.Ended.{Ended}
 use Rattle.program.specs.declared.run.Ended.the-variants.{Whole, ReadFailed, WriteFailed, TooLong}
 use Rattle.program.specs.declared.run.Outcome.{Outcome}
@@ -13,8 +14,8 @@ status ReadFailed = 1
 status WriteFailed = 1
 status TooLong = 1
 
--- the status of a run
-pub record Reported (s : ℕ) : Type 0 where
+-- the status of a program's run
+pub record Reported (g : Program) (s : ℕ) : Type 0 where
   pub outcome : Outcome
-  pub ran : Ran outcome
+  pub ran : Ran g outcome
   pub is : s ≡ status (outcome .ended)

@@ -1,13 +1,15 @@
-// The program: standard input to standard output.
+// A program's run: standard input to standard output.
 ghost use mathlib.Core.Path.{_≡_};
 ghost use Prim.Native.Nat.{_+_, _≤_, _<_, _^_};
 ghost use lib.ListN.{length};
 ghost use Rattle.lines.specs.Machine.{partial-room};
 ghost use Rattle.program.specs.Inner.Days.{GoodDay};
+ghost use Rattle.program.specs.Inner.Printers.{program-of};
 ghost use Rattle.program.specs.Runs.{buffer-length, ChunkTaken, Stopped, Ran};
-ghost use Rattle.program.specs.declared.run.Ended.the-variants.{WriteFailed, TooLong};
+ghost use Rattle.program.specs.declared.run.Ended.the-variants.{ReadFailed, WriteFailed, TooLong};
 use crate::feed;
 use crate::feed::State;
+use crate::printers::Program;
 use libc::STDERR_FILENO;
 use libc::STDIN_FILENO;
 use libc::STDOUT_FILENO;
@@ -43,7 +45,7 @@ pub struct Taken {
 // Takes in a whole chunk, and writes what it prints whenever the buffer has no room for a line more, and at its end.
 fn take_in(d: State, chunk: &[u8], out: &mut [u8]) -> Taken
     requires { ⌜ GoodDay (d .day) ⌝ }
-    requires { ⌜ (d .partial .len ≤ partial-room) × (d .number + length (now chunk) < 2 ^ 63) ⌝ }
+    requires { ⌜ (d .partial .len ≤ partial-room) × (d .printer .number + length (now chunk) < 2 ^ 63) ⌝ }
     requires { ⌜ (length (now chunk) ≤ buffer-length) × (length (now out) ≡ buffer-length) ⌝ }
     ensures { λ r. ⌜ ChunkTaken d (now (chunk .entry)) r ⌝ }
 {
@@ -73,10 +75,13 @@ fn take_in(d: State, chunk: &[u8], out: &mut [u8]) -> Taken
 }
 
 // A write has failed, which is said.
-fn unwritten(read: u64, written: u64) -> Outcome
+fn unwritten(program: Program, read: u64, written: u64) -> Outcome
     ensures { λ r. ⌜ r ≡ record { ended = WriteFailed; read = read; written = written } ⌝ }
 {
-    os::fail(b"oven: cannot write standard output");
+    match program {
+        Program::Board => os::fail(b"oven: cannot write standard output"),
+        Program::Sheet => os::fail(b"sheet: cannot write standard output"),
+    }
     Outcome {
         ended: Ended::WriteFailed,
         read,
@@ -85,13 +90,20 @@ fn unwritten(read: u64, written: u64) -> Outcome
 }
 
 // More bytes than are read, which is said.
-fn too_long(read: u64, written: u64) -> Outcome
+fn too_long(program: Program, read: u64, written: u64) -> Outcome
     ensures { λ r. ⌜ r ≡ record { ended = TooLong; read = read; written = written } ⌝ }
 {
-    streams::write_all(
-        STDERR_FILENO,
-        b"oven: more than 281474976710656 bytes of input\n",
-    );
+    match program {
+        Program::Board => streams::write_all(
+            STDERR_FILENO,
+            b"oven: more than 281474976710656 bytes of input\n",
+        ),
+        Program::Sheet => streams::write_all(
+            STDERR_FILENO,
+            b"sheet: more than 281474976710656 bytes of input\n",
+        ),
+    }
+    ;
     Outcome {
         ended: Ended::TooLong,
         read,
@@ -102,14 +114,16 @@ fn too_long(read: u64, written: u64) -> Outcome
 // The end of input: writes what is left to print.
 fn finish(state: State, out: &mut [u8], read: u64, written: u64) -> Outcome
     requires { ⌜ GoodDay (state .day) ⌝ }
-    requires { ⌜ (state .partial .len ≤ partial-room) × (length (now out) ≡ buffer-length) × (written + buffer-length < 2 ^ 64) ⌝ }
+    requires { ⌜ (state .partial .len ≤ partial-room) × (state .printer .number < 2 ^ 63) × (length (now out) ≡ buffer-length) × (written + buffer-length < 2 ^ 64) ⌝ }
     ensures { λ r. ⌜ Stopped state read written r ⌝ }
 {
+    let printer = state.printer;
+    let program = printer.program;
     let end = feed::finish(state, out, 0);
     let put = streams::write_all(STDOUT_FILENO, &out[..end]);
     let written = written + put as u64;
     if put < end {
-        return unwritten(read, written);
+        return unwritten(program, read, written);
     }
     Outcome {
         ended: Ended::Whole,
@@ -118,29 +132,41 @@ fn finish(state: State, out: &mut [u8], read: u64, written: u64) -> Outcome
     }
 }
 
-// A read gave no bytes: it is the end of input, or it has failed, which is said, and then neither the line that has begun nor the tally is printed.
+// A read has failed, which is said.
+fn unread(program: Program, read: u64, written: u64) -> Outcome
+    ensures { λ r. ⌜ r ≡ record { ended = ReadFailed; read = read; written = written } ⌝ }
+{
+    match program {
+        Program::Board => os::fail(b"oven: cannot read standard input"),
+        Program::Sheet => os::fail(b"sheet: cannot read standard input"),
+    }
+    Outcome {
+        ended: Ended::ReadFailed,
+        read,
+        written,
+    }
+}
+
+// A read gave no bytes: it is the end of input, or it has failed, and then neither the line that has begun nor what comes at the end is printed.
 fn stop(got: Got, state: State, out: &mut [u8], read: u64, written: u64) -> Outcome
     requires { ⌜ GoodDay (state .day) ⌝ }
-    requires { ⌜ (state .partial .len ≤ partial-room) × (length (now out) ≡ buffer-length) × (written + buffer-length < 2 ^ 64) ⌝ }
+    requires { ⌜ (state .partial .len ≤ partial-room) × (state .printer .number < 2 ^ 63) × (length (now out) ≡ buffer-length) × (written + buffer-length < 2 ^ 64) ⌝ }
     ensures { λ r. ⌜ Stopped state read written r ⌝ }
 {
     let Got::End = got else {
-        os::fail(b"oven: cannot read standard input");
-        return Outcome {
-            ended: Ended::ReadFailed,
-            read,
-            written,
-        };
+        let printer = state.printer;
+        let program = printer.program;
+        return unread(program, read, written);
     };
     finish(state, out, read, written)
 }
 
 // Reads standard input to its end and writes what is printed, for the bytes of each read before the next read. Where a read or a write fails it goes
 // no further.
-pub fn run() -> Outcome
-    ensures { λ r. ⌜ Ran r ⌝ }
+pub fn run(program: Program) -> Outcome
+    ensures { λ r. ⌜ Ran (program-of program) r ⌝ }
 {
-    let mut state = feed::new_state();
+    let mut state = feed::new_state(program);
     let mut chunk = io::large_buffer();
     let mut out = io::large_buffer();
     let mut read: u64 = 0;
@@ -155,8 +181,8 @@ pub fn run() -> Outcome
         read += n as u64;
         written += t.written;
         if !t.whole {
-            return unwritten(read, written);
+            return unwritten(program, read, written);
         }
     }
-    too_long(read, written)
+    too_long(program, read, written)
 }

@@ -1,7 +1,7 @@
 // What a line does to the day, and how it is answered.
 ghost use mathlib.Core.Path.{_≡_};
 ghost use mathlib.Core.Bool.{true};
-ghost use Prim.Native.Nat.{_+_, _≤_};
+ghost use Prim.Native.Nat.{_+_, _≤_, _<_, _^_};
 ghost use lib.ListN.{length};
 ghost use Rattle.board.specs.Limits.{places-held};
 ghost use Rattle.lines.specs.Fields.{grade-meant};
@@ -9,6 +9,8 @@ ghost use Rattle.lines.specs.Session.{step-refused, step-open, step-admit, step
 ghost use Rattle.fields.specs.Grades.{grade-of};
 ghost use Rattle.answers.specs.Printed.{answer-room};
 ghost use Rattle.program.specs.Inner.Days.{session-of, GoodDay, Did, DidAlone, Answered};
+use crate::printers;
+use crate::printers::Printer;
 use answers::Answer;
 use board::Board;
 use board::Laxity;
@@ -31,9 +33,10 @@ pub struct Stepped {
     pub listed: usize,
 }
 
-// The day after a line, and where the line's output ends in the buffer.
+// The day after a line, what the printer knows then, and where the line's output ends in the buffer.
 pub struct DayAfter {
     pub day: Day,
+    pub printer: Printer,
     pub at: usize,
 }
 
@@ -158,10 +161,16 @@ fn step_line(
 }
 
 // Answers a line, the line end not among its bytes.
-pub(crate) fn answer_line(day: Day, number: u64, line: &[u8], out: &mut [u8], at: usize) -> DayAfter
+pub(crate) fn answer_line(
+    day: Day,
+    printer: Printer,
+    line: &[u8],
+    out: &mut [u8],
+    at: usize,
+) -> DayAfter
     requires { ⌜ GoodDay day ⌝ }
-    requires { ⌜ at + answer-room ≤ length (now out) ⌝ }
-    ensures { λ r. ⌜ Answered day number (now (line .entry)) (now (out .entry)) at r (now (out .exit)) ⌝ }
+    requires { ⌜ (at + answer-room ≤ length (now out)) × (printer .number < 2 ^ 63) ⌝ }
+    ensures { λ r. ⌜ Answered day printer (now (line .entry)) (now (out .entry)) at r (now (out .exit)) ⌝ }
 {
     let mut tickets = [0u32; Board::PLACES];
     let mut grades = [0u8; Board::PLACES];
@@ -169,7 +178,12 @@ pub(crate) fn answer_line(day: Day, number: u64, line: &[u8], out: &mut [u8], at
     let s = step_line(day, line, &mut tickets, &mut grades, &mut slots);
     let n = s.listed;
     let answer = s.answer;
-    let end = answers::print_answer(number, answer, &tickets[..n], &grades[..n], out, at);
+    let p = printers::print_by(printer, answer, &tickets[..n], &grades[..n], out, at);
     let next = s.day;
-    DayAfter { day: next, at: end }
+    let known = p.printer;
+    DayAfter {
+        day: next,
+        printer: known,
+        at: p.at,
+    }
 }

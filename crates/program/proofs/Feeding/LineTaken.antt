@@ -9,7 +9,7 @@ use borrow.Author.Tests.{ltb-true, ltb-false}
 use lib.ListN.{length, getD}
 use Rattle.lines.specs.Bytes.{Bytes, line-end}
 use Rattle.lines.specs.Session.{Session, step, session-after}
-use Rattle.lines.specs.Output.{printed-answer}
+use Rattle.lines.specs.Printers.{Printer, answers-printed, printer-after}
 use Rattle.lines.specs.Machine.{partial-room, after-bytes, printed-along}
 use Rattle.lines.proofs.Cutting.{one-line}
 use Rattle.printing.specs.Lines.{put}
@@ -22,6 +22,7 @@ use Rattle.cutting.proofs.Parts.{part-last}
 use Rattle.answers.specs.Printed.{answer-room}
 use Rattle.program.specs.declared.session.DayAfter.{DayAfter}
 use Rattle.program.specs.declared.feed.State.{State}
+use Rattle.program.specs.Inner.Printers.{printer-of}
 use Rattle.program.specs.Inner.Days.{session-of, GoodDay, Answered}
 use Rattle.program.specs.Inner.Machines.{machine-of, TakenIn}
 use Rattle.program.proofs.Feeding.Along.{part-after, part-printed, line-after, line-printed}
@@ -38,11 +39,11 @@ module _
     (h : Partial) (e : partial-bytes h ≡ extend-all (partial-bytes (k .partial)) (part s from to))
   where
     taken-part : GoodDay (k .day) → h .len ≤ partial-room → at ≤ length out
-        → TakenIn k s from out at (record { state = record { day = k .day; number = k .number; partial = h }; used = to; at = at }) out
+        → TakenIn k s from out at (record { state = record { day = k .day; printer = k .printer; partial = h }; used = to; at = at }) out
     unfolding machine-of answer-room
     taken-part g n f =
         let p : printed-along (machine-of k) (part s from to) ≡ [] =
-        part-printed (session-of (k .day)) (k .number) (partial-bytes (k .partial)) (part s from to) (l .first)
+        part-printed (session-of (k .day)) (printer-of (k .printer)) (partial-bytes (k .partial)) (part s from to) (l .first)
         in
         record {
           good = g;
@@ -50,8 +51,8 @@ module _
           forward = l .forward;
           inside = l .inside;
           number = omega (arith, l .forward);
-          machine = ap (λ (x : Bytes). record { session = session-of (k .day); number = k .number; partial = x }) e
-              ∙ sym (part-after (session-of (k .day)) (k .number) (partial-bytes (k .partial)) (part s from to) (l .first));
+          machine = ap (λ (x : Bytes). record { session = session-of (k .day); printer = printer-of (k .printer); partial = x }) e
+              ∙ sym (part-after (session-of (k .day)) (printer-of (k .printer)) (partial-bytes (k .partial)) (part s from to) (l .first));
           end = rw p (omega arith);
           few = omega (arith, l .forward);
           fits = f;
@@ -59,37 +60,37 @@ module _
         }
 
     -- its end is in the chunk, and it is answered
-    module _ (m : to < length s) (r : DayAfter) (out' : Bytes) (a : Answered (k .day) (k .number) (partial-bytes h) out at r out') where
+    module _ (m : to < length s) (r : DayAfter) (out' : Bytes) (a : Answered (k .day) (k .printer) (partial-bytes h) out at r out') where
       used-line : part s from (to + 1) ≡ part s from to ++ (line-end ∷ [])
       used-line = rw add-one (part-last s from to (l .forward) m) ∙ ap (λ (b : ℕ). part s from to ++ (b ∷ [])) (l .found m)
 
-      printed-line : printed-along (machine-of k) (part s from (to + 1)) ≡ printed-answer (k .number) (step (session-of (k .day) .board) (partial-bytes h) .answer)
+      printed-line : printed-along (machine-of k) (part s from (to + 1)) ≡ answers-printed (printer-of (k .printer)) (step (session-of (k .day) .board) (partial-bytes h) .answer ∷ [])
       unfolding machine-of
       printed-line =
           ap (printed-along (machine-of k)) used-line
-          ∙ line-printed (session-of (k .day)) (k .number) (partial-bytes (k .partial)) (part s from to) (l .first)
-          ∙ ap (λ (x : Bytes). printed-answer (k .number) (step (session-of (k .day) .board) x .answer)) (sym e)
+          ∙ line-printed (session-of (k .day)) (printer-of (k .printer)) (partial-bytes (k .partial)) (part s from to) (l .first)
+          ∙ ap (λ (x : Bytes). answers-printed (printer-of (k .printer)) (step (session-of (k .day) .board) x .answer ∷ [])) (sym e)
 
       taken-line : (bytes : Bytes) → at + answer-room ≤ length out
-          → TakenIn k s from out at (record { state = record { day = r .day; number = k .number + 1; partial = record { bytes = bytes; len = 0 } }; used = to + 1; at = r .at }) out'
+          → TakenIn k s from out at (record { state = record { day = r .day; printer = r .printer; partial = record { bytes = bytes; len = 0 } }; used = to + 1; at = r .at }) out'
       unfolding machine-of partial-bytes answer-room
       taken-line bytes f =
           record {
-            good = a .good;
+            good = a .given .good;
             partial = omega arith;
             forward = omega (arith, l .forward);
             inside = omega arith;
-            number = omega (arith, l .forward);
+            number = omega (arith, l .forward, a .number);
             machine = ap₂
-                (λ (x : Session) (n : ℕ). record { session = x; number = n; partial = [] })
-                (a .session ∙ ap (λ (x : Bytes). session-after (session-of (k .day)) (step (session-of (k .day) .board) x)) e)
-                (add-one (k .number))
-                ∙ sym (line-after (session-of (k .day)) (k .number) (partial-bytes (k .partial)) (part s from to) (l .first))
+                (λ (x : Session) (p : Printer). record { session = x; printer = p; partial = [] })
+                (a .given .session ∙ ap (λ (x : Bytes). session-after (session-of (k .day)) (step (session-of (k .day) .board) x)) e)
+                (a .given .printer ∙ ap (λ (x : Bytes). printer-after (printer-of (k .printer)) (step (session-of (k .day) .board) x .answer)) e)
+                ∙ sym (line-after (session-of (k .day)) (printer-of (k .printer)) (partial-bytes (k .partial)) (part s from to) (l .first))
                 ∙ ap (after-bytes (machine-of k)) (sym used-line);
-            end = a .end ∙ ap (λ (x : Bytes). at + length x) (sym printed-line);
-            few = omega (arith, l .forward, a .within);
-            fits = omega (arith, a .within);
-            bytes = a .bytes ∙ ap (put out at) (sym printed-line);
+            end = a .given .end ∙ ap (λ (x : Bytes). at + length x) (sym printed-line);
+            few = omega (arith, l .forward, a .given .within);
+            fits = omega (arith, a .given .within);
+            bytes = a .given .bytes ∙ ap (put out at) (sym printed-line);
           }
 
 -- a line cut from the chunk's bytes from `from` on
@@ -105,10 +106,10 @@ module _ (k : State) (s : Bytes) (from : ℕ) (out : Bytes) (at : ℕ) {r : Cut}
 
   -- its end is not in the chunk
   pub cut-part : r .ended ≡ false → GoodDay (k .day) → at ≤ length out
-      → TakenIn k s from out at (record { state = record { day = k .day; number = k .number; partial = r .partial }; used = r .used; at = at }) out
+      → TakenIn k s from out at (record { state = record { day = k .day; printer = k .printer; partial = r .partial }; used = r .used; at = at }) out
   cut-part h g f =
       let e : r .used ≡ to = cut .used ∙ ap (λ b. cond b (suc to) to) h in
-      subst (λ (n : ℕ). TakenIn k s from out at (record { state = record { day = k .day; number = k .number; partial = r .partial }; used = n; at = at }) out) (sym e)
+      subst (λ (n : ℕ). TakenIn k s from out at (record { state = record { day = k .day; printer = k .printer; partial = r .partial }; used = n; at = at }) out) (sym e)
       (taken-part k s from to out at ends (r .partial) (cut .line) g (cut .few) f)
 
   -- and then the chunk is used to its end
@@ -131,9 +132,9 @@ module _ (k : State) (s : Bytes) (from : ℕ) (out : Bytes) (at : ℕ) {r : Cut}
     used-inside = omega (arith, used-end, ended-in)
 
     -- it is, and the line is answered
-    pub cut-line : (a : DayAfter) (out' : Bytes) → Answered (k .day) (k .number) (partial-bytes (r .partial)) out at a out' → (bytes : Bytes) → at + answer-room ≤ length out
-        → TakenIn k s from out at (record { state = record { day = a .day; number = k .number + 1; partial = record { bytes = bytes; len = 0 } }; used = r .used; at = a .at }) out'
+    pub cut-line : (a : DayAfter) (out' : Bytes) → Answered (k .day) (k .printer) (partial-bytes (r .partial)) out at a out' → (bytes : Bytes) → at + answer-room ≤ length out
+        → TakenIn k s from out at (record { state = record { day = a .day; printer = a .printer; partial = record { bytes = bytes; len = 0 } }; used = r .used; at = a .at }) out'
     cut-line a out' g bytes f =
-        subst (λ (n : ℕ). TakenIn k s from out at (record { state = record { day = a .day; number = k .number + 1; partial = record { bytes = bytes; len = 0 } }; used = n; at = a .at }) out')
+        subst (λ (n : ℕ). TakenIn k s from out at (record { state = record { day = a .day; printer = a .printer; partial = record { bytes = bytes; len = 0 } }; used = n; at = a .at }) out')
         (sym used-end)
         (taken-line k s from to out at ends (r .partial) (cut .line) ended-in a out' g bytes f)

@@ -7,16 +7,15 @@ use native.Mathlib.Omega.{arith}
 use lib.ListN.{length}
 use Rattle.lists.proofs.Tests.{cmp}
 use Rattle.lines.specs.Bytes.{Bytes}
-use Rattle.lines.specs.Output.{printed-answers}
-use Rattle.lines.specs.Machine.{partial-room, Machine, after-bytes, answers-along, printed-along}
-use Rattle.lines.proofs.Answers.{after-append, printed-append}
+use Rattle.lines.specs.Machine.{partial-room, Machine, after-bytes, printed-along}
+use Rattle.lines.proofs.Answers.{after-append, printed-nothing, printed-append}
 use Rattle.printing.specs.Lines.{put}
 use Rattle.printing.proofs.Puts.{put-none}
 use Rattle.cutting.specs.Cut.{part}
 use Rattle.cutting.proofs.Parts.{part-none, part-join}
 use Rattle.answers.specs.Printed.{answer-room}
-use Rattle.answers.proofs.Pieces.{Left, all-left, fewer-left}
-use Rattle.answers.proofs.Buffers.{put-length}
+use Rattle.printing.proofs.Pieces.{Left, all-left, fewer-left}
+use Rattle.printing.proofs.Puts.{put-length}
 use Rattle.program.specs.declared.feed.State.{State}
 use Rattle.program.specs.declared.feed.Fed.{Fed}
 use Rattle.program.specs.Inner.Days.{GoodDay}
@@ -24,9 +23,10 @@ use Rattle.program.specs.Inner.Machines.{machine-of, TakenIn, GoesOn}
 
 pub taken-none : (k : State) (s : Bytes) (from : ℕ) (out : Bytes) (at : ℕ) → GoodDay (k .day) → k .partial .len ≤ partial-room → from ≤ length s → at ≤ length out
     → TakenIn k s from out at (record { state = k; used = from; at = at }) out
-unfolding after-bytes answers-along printed-along printed-answers answer-room
+unfolding after-bytes answer-room
 taken-none k s from out at g h l f =
     let e = part-none s from in
+    let p = printed-nothing (machine-of k) in
     record {
       good = g;
       partial = h;
@@ -34,10 +34,10 @@ taken-none k s from out at g h l f =
       inside = l;
       number = omega arith;
       machine = rw e;
-      end = rw e (omega arith);
+      end = rw (e, p) (omega arith);
       few = omega arith;
       fits = f;
-      bytes = rw e (sym (put-none out at));
+      bytes = rw (e, p) (sym (put-none out at));
     }
 
 module _ {k : State} {s : Bytes} {from : ℕ} {out : Bytes} {at : ℕ} {f : Fed} {mid : Bytes} (a : TakenIn k s from out at f mid) where
@@ -88,10 +88,9 @@ module _ {k : State} {s : Bytes} {from : ℕ} {out : Bytes} {at : ℕ} {f : Fed}
 
   -- where no byte is used nothing is printed
   stays : f .used ≡ from → f .at ≡ at
-  unfolding answers-along printed-along printed-answers
   stays e =
       let p : part s from (f .used) ≡ [] = ap (part s from) e ∙ part-none s from in
-      omega (arith, a .end, ap (λ (x : Bytes). length (printed-along (machine-of k) x)) p)
+      omega (arith, a .end, ap length (ap (printed-along (machine-of k)) p ∙ printed-nothing (machine-of k)))
 
   pub stops-full : length out < f .at + answer-room → GoesOn s from out at f
   stops-full h = record { further = λ r l. go r (cmp (f .used) from); to-the-end = λ r. absurd (omega arith) }

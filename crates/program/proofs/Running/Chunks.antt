@@ -7,9 +7,8 @@ use native.Mathlib.Omega.{arith}
 use lib.ListN.{length, length-append}
 use Rattle.lists.proofs.Tests.{never}
 use Rattle.lines.specs.Bytes.{Bytes}
-use Rattle.lines.specs.Output.{printed-answers}
-use Rattle.lines.specs.Machine.{partial-room, Machine, after-bytes, answers-along, printed-along}
-use Rattle.lines.proofs.Answers.{after-append, printed-append}
+use Rattle.lines.specs.Machine.{partial-room, Machine, after-bytes, printed-along}
+use Rattle.lines.proofs.Answers.{after-append, printed-nothing, printed-append}
 use Rattle.cutting.specs.Cut.{part}
 use Rattle.cutting.proofs.Parts.{part-none, part-join, part-whole}
 use Rattle.answers.specs.Printed.{answer-room}
@@ -24,16 +23,16 @@ pub record Along (first : State) (chunk : Bytes) (state : State) (used written :
   pub good : GoodDay (state .day)
   pub partial : state .partial .len ≤ partial-room
   pub inside : used ≤ length chunk
-  pub number : state .number ≤ first .number + used
+  pub number : state .printer .number ≤ first .printer .number + used
   pub machine : machine-of state ≡ after-bytes (machine-of first) (part chunk 0 used)
   pub all : written ≡ length (printed-along (machine-of first) (part chunk 0 used))
   pub few : written ≤ answer-room * used
 
 pub along-none : (first : State) (chunk : Bytes) → GoodDay (first .day) → first .partial .len ≤ partial-room → Along first chunk first 0 0
-unfolding after-bytes answers-along printed-along printed-answers answer-room
+unfolding after-bytes answer-room
 along-none first chunk g h =
     let e = part-none chunk 0 in
-    record { good = g; partial = h; inside = omega arith; number = omega arith; machine = rw e; all = rw e; few = omega arith }
+    record { good = g; partial = h; inside = omega arith; number = omega arith; machine = rw e; all = rw (e, printed-nothing (machine-of first)); few = omega arith }
 
 module _ {first : State} {chunk : Bytes} {state : State} {used written : ℕ} (a : Along first chunk state used written) where
   abbrev m : Machine

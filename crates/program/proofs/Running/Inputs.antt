@@ -6,33 +6,35 @@ use Prim.Native.Nat.{ℕ, _+_, _*_, _≤_}
 use native.Mathlib.Omega.{arith}
 use lib.ListN.{length, length-append}
 use Rattle.lines.specs.Bytes.{Bytes}
-use Rattle.lines.specs.Output.{printed-answers}
-use Rattle.lines.specs.Machine.{partial-room, Machine, new-machine, after-bytes, answers-along, printed-along}
-use Rattle.lines.proofs.Answers.{after-append, printed-append}
+use Rattle.lines.specs.Printers.{Program}
+use Rattle.lines.specs.Machine.{partial-room, Machine, new-machine, after-bytes, printed-along}
+use Rattle.lines.proofs.Answers.{after-append, printed-nothing, printed-append}
 use Rattle.answers.specs.Printed.{answer-room}
 use Rattle.program.specs.declared.feed.State.{State}
 use Rattle.program.specs.declared.run.Ended.the-variants.{WriteFailed, TooLong}
 use Rattle.program.specs.declared.run.Outcome.{Outcome}
 use Rattle.program.specs.declared.run.Taken.{Taken}
+use Rattle.program.specs.declared.printers.Program.{Program as ProgramRun}
+use Rattle.program.specs.Inner.Printers.{program-of}
 use Rattle.program.specs.Inner.Days.{GoodDay}
 use Rattle.program.specs.Inner.Machines.{machine-of, NewState}
 use Rattle.program.specs.Runs.{most-read, ChunkTaken, EndsSo, Ran, Stopped}
 use Rattle.program.proofs.Running.Whole.{output-length}
 
 -- so many bytes are read, and all that they print is written
-pub record SoFar (state : State) (read written : ℕ) : Type 0 where
+pub record SoFar (g : Program) (state : State) (read written : ℕ) : Type 0 where
   pub input : Bytes
   pub count : read ≡ length input
   pub good : GoodDay (state .day)
   pub partial : state .partial .len ≤ partial-room
-  pub number : state .number ≤ 1 + read
-  pub machine : machine-of state ≡ after-bytes new-machine input
-  pub all : written ≡ length (printed-along new-machine input)
+  pub number : state .printer .number ≤ 1 + read
+  pub machine : machine-of state ≡ after-bytes (new-machine g) input
+  pub all : written ≡ length (printed-along (new-machine g) input)
   pub few : written ≤ answer-room * read
 
-pub nothing-read : {k : State} → NewState k → SoFar k 0 0
-unfolding after-bytes answers-along printed-along printed-answers answer-room
-nothing-read n =
+pub nothing-read : {g : ProgramRun} {k : State} → NewState g k → SoFar (program-of g) k 0 0
+unfolding after-bytes answer-room
+nothing-read {g} n =
     record {
       input = [];
       count = omega arith;
@@ -40,15 +42,15 @@ nothing-read n =
       partial = n .partial;
       number = omega (arith, n .number);
       machine = n .machine;
-      all = omega arith;
+      all = rw (printed-nothing (new-machine (program-of g)));
       few = omega arith;
     }
 
-module _ {state : State} {read written : ℕ} (s : SoFar state read written) where
-  pub stopped : {r : Outcome} → Stopped state read written r → Ran r
-  stopped e = record { input = s .input; count = e .same ∙ s .count; ends = e .ends (s .input) (s .machine) (s .all) }
+module _ {g : Program} {state : State} {read written : ℕ} (s : SoFar g state read written) where
+  pub stopped : {r : Outcome} → Stopped state read written r → Ran g r
+  stopped e = record { input = s .input; count = e .same ∙ s .count; ends = e .ends g (s .input) (s .machine) (s .all) }
 
-  pub too-long : most-read ≤ read → Ran (record { ended = TooLong; read = read; written = written })
+  pub too-long : most-read ≤ read → Ran g (record { ended = TooLong; read = read; written = written })
   unfolding EndsSo
   too-long h = record { input = s .input; count = s .count; ends = (omega (arith, s .count), s .all) }
 
@@ -60,18 +62,18 @@ module _ {state : State} {read written : ℕ} (s : SoFar state read written) whe
     sum = omega (arith, s .count, length-append (s .input) bytes)
 
     -- what both print is what the input prints, and then the chunk
-    printed : length (printed-along new-machine both) ≡ written + length (printed-along (machine-of state) bytes)
+    printed : length (printed-along (new-machine g) both) ≡ written + length (printed-along (machine-of state) bytes)
     printed =
-        let m = after-bytes new-machine (s .input) in
+        let m = after-bytes (new-machine g) (s .input) in
         omega (
           arith,
           s .all,
-          ap length (printed-append new-machine (s .input) bytes),
-          length-append (printed-along new-machine (s .input)) (printed-along m bytes),
+          ap length (printed-append (new-machine g) (s .input) bytes),
+          length-append (printed-along (new-machine g) (s .input)) (printed-along m bytes),
           ap (λ (k : Machine). length (printed-along k bytes)) (s .machine),
         )
 
-    pub chunk-more : t .whole ≡ true → SoFar (t .state) (read + n) (written + t .written)
+    pub chunk-more : t .whole ≡ true → SoFar g (t .state) (read + n) (written + t .written)
     unfolding answer-room
     chunk-more h =
         record {
@@ -80,11 +82,11 @@ module _ {state : State} {read written : ℕ} (s : SoFar state read written) whe
           good = c .good;
           partial = c .partial;
           number = omega (arith, c .number, s .number);
-          machine = c .machine h ∙ ap (λ (k : Machine). after-bytes k bytes) (s .machine) ∙ sym (after-append new-machine (s .input) bytes);
+          machine = c .machine h ∙ ap (λ (k : Machine). after-bytes k bytes) (s .machine) ∙ sym (after-append (new-machine g) (s .input) bytes);
           all = omega (arith, c .all h, printed);
           few = omega (arith, c .few, s .few);
         }
 
-    pub chunk-part : t .whole ≡ false → Ran (record { ended = WriteFailed; read = read + n; written = written + t .written })
+    pub chunk-part : t .whole ≡ false → Ran g (record { ended = WriteFailed; read = read + n; written = written + t .written })
     unfolding EndsSo
-    chunk-part h = record { input = both; count = sum; ends = omega (arith, c .part h, printed, output-length both) }
+    chunk-part h = record { input = both; count = sum; ends = omega (arith, c .part h, printed, output-length g both) }

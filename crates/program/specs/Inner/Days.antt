@@ -1,7 +1,7 @@
 -- The day that the program holds between two lines, as a session; and what a line does.
 use mathlib.Core.Path.{_≡_}
 use mathlib.Core.Bool.{true, cond}
-use mathlib.Core.List.{List}
+use mathlib.Core.List.{List, [], _∷_}
 use mathlib.Core.Option.{none, some}
 use Prim.Native.Nat.{ℕ, _+_, _≤_}
 use lib.ListN.{length, take}
@@ -9,12 +9,14 @@ use Rattle.board.specs.Limits.{places-held}
 use Rattle.board.specs.Sound.{sound}
 use Rattle.lines.specs.Bytes.{Bytes}
 use Rattle.lines.specs.Session.{Session, Step, step, session-after}
-use Rattle.lines.specs.Output.{printed-answer}
+use Rattle.lines.specs.Printers.{Printer, answers-printed, printer-after}
 use Rattle.printing.specs.Lines.{put}
 use Rattle.answers.specs.Printed.{answer-of, answer-room}
 use Rattle.program.specs.declared.session.Day.{Day}
 use Rattle.program.specs.declared.session.Stepped.{Stepped}
 use Rattle.program.specs.declared.session.DayAfter.{DayAfter}
+use Rattle.program.specs.declared.printers.Printer.{Printer as PrinterHeld}
+use Rattle.program.specs.Inner.Printers.{printer-of}
 
 unfoldable pub session-of : Day → Session
 session-of d = record { board = cond (d .opened) (some (d .board)) none; tally = d .tally }
@@ -34,16 +36,17 @@ pub record Did (day : Day) (a : Step) (r : Stepped) (tickets grades : List ℕ) 
 abbrev pub DidAlone : Day → Step → Stepped → Type 0
 DidAlone day a r = (tickets grades : List ℕ) → Did day a r tickets grades
 
--- these bytes printed at `at` in the buffer, no more than an answer has, and the day after them has this session
-pub record Given (bs : Bytes) (s : Session) (out : Bytes) (at : ℕ) (r : DayAfter) (out' : Bytes) : Type 0 where
+-- these bytes printed at `at` in the buffer, no more than an answer has; the day after them has this session, and the printer knows this
+pub record Given (bs : Bytes) (s : Session) (p : Printer) (out : Bytes) (at : ℕ) (r : DayAfter) (out' : Bytes) : Type 0 where
   pub good : GoodDay (r .day)
   pub session : session-of (r .day) ≡ s
+  pub printer : printer-of (r .printer) ≡ p
   pub end : r .at ≡ at + length bs
   pub within : r .at ≤ at + answer-room
   pub bytes : out' ≡ put out at bs
 
--- a line answered: the session is the definition's, and so are the bytes
-abbrev pub Answered : (day : Day) (number : ℕ) (line out : Bytes) (at : ℕ) (r : DayAfter) (out' : Bytes) → Type 0
-Answered day number line out at r out' =
-    let a = step (session-of day .board) line in
-    Given (printed-answer number (a .answer)) (session-after (session-of day) a) out at r out'
+-- a line answered: the session is the definition's, and so are the bytes; it is numbered one further at the most
+pub record Answered (day : Day) (k : PrinterHeld) (line out : Bytes) (at : ℕ) (r : DayAfter) (out' : Bytes) : Type 0 where
+  pub given : let a = step (session-of day .board) line in
+      Given (answers-printed (printer-of k) (a .answer ∷ [])) (session-after (session-of day) a) (printer-after (printer-of k) (a .answer)) out at r out'
+  pub number : r .printer .number ≤ k .number + 1

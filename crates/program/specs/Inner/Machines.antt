@@ -9,16 +9,18 @@ use Rattle.cutting.specs.Cut.{partial-bytes, part}
 use Rattle.answers.specs.Printed.{answer-room}
 use Rattle.program.specs.declared.feed.State.{State}
 use Rattle.program.specs.declared.feed.Fed.{Fed}
+use Rattle.program.specs.declared.printers.Program.{Program as ProgramRun}
+use Rattle.program.specs.Inner.Printers.{program-of, printer-of}
 use Rattle.program.specs.Inner.Days.{session-of, GoodDay}
 
 unfoldable pub machine-of : State → Machine
-machine-of k = record { session = session-of (k .day); number = k .number; partial = partial-bytes (k .partial) }
+machine-of k = record { session = session-of (k .day); printer = printer-of (k .printer); partial = partial-bytes (k .partial) }
 
--- the state before the first byte
-pub record NewState (k : State) : Type 0 where
+-- the state of a program before the first byte
+pub record NewState (g : ProgramRun) (k : State) : Type 0 where
   pub good : GoodDay (k .day)
-  pub machine : machine-of k ≡ new-machine
-  pub number : k .number ≡ 1
+  pub machine : machine-of k ≡ new-machine (program-of g)
+  pub number : k .printer .number ≡ 1
   pub partial : k .partial .len ≤ partial-room
 
 -- a part of a chunk taken in: the machine is the definition's, and so are the bytes printed, put at `at` in the buffer
@@ -27,7 +29,7 @@ pub record TakenIn (state : State) (chunk : Bytes) (from : ℕ) (out : Bytes) (a
   pub partial : r .state .partial .len ≤ partial-room
   pub forward : from ≤ r .used
   pub inside : r .used ≤ length chunk
-  pub number : r .state .number + from ≤ state .number + r .used
+  pub number : r .state .printer .number + from ≤ state .printer .number + r .used
   pub machine : machine-of (r .state) ≡ after-bytes (machine-of state) (part chunk from (r .used))
   pub end : r .at ≡ at + length (printed-along (machine-of state) (part chunk from (r .used)))
   pub few : r .at + answer-room * from ≤ at + answer-room * r .used

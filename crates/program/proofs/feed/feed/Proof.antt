@@ -17,23 +17,23 @@ use Rattle.program.proofs.feed.feed.Statement.{statement}
 use Rattle.program.proofs.feed.feed.Tie as tie
 
 abbrev Inv-loop : tie.InvT-loop
-Inv-loop chunk from out₀ at day₀ number₀ partial₀ used₀ end₀ out day number partial used end =
-    TakenIn (record { day = day₀; number = number₀; partial = partial₀ }) chunk from out₀ at
-    (record { state = record { day = day; number = number; partial = partial }; used = used; at = end })
+Inv-loop chunk from out₀ at day₀ printer₀ partial₀ used₀ end₀ out day printer partial used end =
+    TakenIn (record { day = day₀; printer = printer₀; partial = partial₀ }) chunk from out₀ at
+    (record { state = record { day = day; printer = printer; partial = partial }; used = used; at = end })
     out
 
 abbrev μ-loop : tie.MeasureT-loop
-μ-loop chunk from out₀ at day₀ number₀ partial₀ used₀ end₀ out day number partial used end = length chunk - used
+μ-loop chunk from out₀ at day₀ printer₀ partial₀ used₀ end₀ out day printer partial used end = length chunk - used
 
 -- the state where a turn begins
 abbrev state-at : tie.At-loop Inv-loop μ-loop → State
-state-at c = record { day = c .loop .day; number = c .loop .number; partial = c .loop .partial }
+state-at c = record { day = c .loop .day; printer = c .loop .printer; partial = c .loop .partial }
 
 loop-holds : tie.Need-loop-holds Inv-loop μ-loop
 loop-holds c =
-    let s = c .before .before .before .before in
+    let s = c .before .before .before .before .before in
     let a = s .args in
-    let k : State = record { day = a .state .day; number = a .state .number; partial = a .state .partial } in
+    let k : State = record { day = a .state .day; printer = a .state .printer; partial = a .state .partial } in
     let p = s .pre .1 .0 in
     taken-none k (a .chunk .now) (a .from) (a .out .now) (a .at) (s .pre .0) (p .0) (p .1) (p .2)
 
@@ -61,36 +61,30 @@ room c = leb-true _ _ (c .if1 .taken)
 answer-line-requires : tie.Need-answer-line-requires Inv-loop μ-loop
 answer-line-requires c κs =
     let t = c .before .before .before .before .before .before in
-    (t .before .before .loop .inv .good, room t)
+    let l = t .before .before in
+    let s = l .before .before .before .before .before .before in
+    (l .loop .inv .good, (room t, omega (arith, l .loop .inv .number, l .loop .inv .inside, s .pre .1 .1)))
 
 -- the turn in which a line ends, and its beginning
 abbrev turn : tie.Then2 Inv-loop μ-loop → tie.At-loop Inv-loop μ-loop
 turn u = u .before .before .before .before .before
 
-add-number : tie.Need-add-number Inv-loop μ-loop
-add-number c =
-    let u = c .before .before .before .before .before .before .before in
-    let l = turn u in
-    let s = l .before .before .before .before .before in
-    let k = u .before .before .cut-line .ensures in
-    omega (arith, l .loop .inv .number, l .loop .inv .inside, s .pre .1 .1)
-
 loop-less : tie.Need-loop-less Inv-loop μ-loop
 loop-less c =
-    let u = c .before .before .before .before .before .before .before in
+    let u = c .before .before .before .before .before .before .before .before in
     let l = turn u in
-    let s = l .before .before .before .before .before in
+    let s = l .before .before .before .before .before .before in
     let k = u .before .before .cut-line .ensures in
     omega (arith, further (state-at l) (s .args .chunk .now) (l .loop .used) (l .loop .out) (l .loop .end) (l .loop .inv .inside) k (u .if2 .taken), used-inside (state-at l) (s .args .chunk .now) (l .loop .used) (l .loop .out) (l .loop .end) (l .loop .inv .inside) k (u .if2 .taken))
 
 loop-again : tie.Need-loop-again Inv-loop μ-loop
 unfolding partial-bytes
 loop-again c =
-    let u = c .before .before .before .before .before .before .before in
+    let u = c .before .before .before .before .before .before .before .before in
     let l = turn u in
-    let s = l .before .before .before .before .before in
+    let s = l .before .before .before .before .before .before in
     let k = u .before .before .cut-line in
-    let r = c .before .before .before .answer-line in
+    let r = c .before .before .before .before .answer-line in
     taken-join (l .loop .inv)
     (cut-line (state-at l) (s .args .chunk .now) (l .loop .used) (l .loop .out) (l .loop .end) (l .loop .inv .inside) (k .ensures) (u .if2 .taken)
     (r .result) (r .last .1 .1 .1 .0) (r .ensures) (k .result .partial .bytes) (room (u .before .before .before)))
@@ -98,13 +92,13 @@ loop-again c =
 loop-less-2 : tie.Need-loop-less-2 Inv-loop μ-loop
 loop-less-2 c =
     let l = c .before .before .before .before .before in
-    let s = l .before .before .before .before .before in
+    let s = l .before .before .before .before .before .before in
     omega (arith, cut-all (state-at l) (s .args .chunk .now) (l .loop .used) (l .loop .out) (l .loop .end) (l .loop .inv .inside) (c .before .before .cut-line .ensures) (c .if2 .left), c .before .before .before .before .loop-test .taken)
 
 loop-again-2 : tie.Need-loop-again-2 Inv-loop μ-loop
 loop-again-2 c =
     let l = c .before .before .before .before .before in
-    let s = l .before .before .before .before .before in
+    let s = l .before .before .before .before .before .before in
     let v = l .loop .inv in
     taken-join v
     (cut-part (state-at l) (s .args .chunk .now) (l .loop .used) (l .loop .out) (l .loop .end) (v .inside) (c .before .before .cut-line .ensures) (c .if2 .left)
@@ -143,7 +137,6 @@ feed-spec =
     array-share-prefix-bytes
     slice-aggregate-answer-line
     answer-line-requires
-    add-number
     loop-less
     loop-again
     loop-less-2

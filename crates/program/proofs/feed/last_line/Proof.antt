@@ -11,7 +11,7 @@ use Rattle.printing.specs.Lines.{put}
 use Rattle.printing.proofs.Puts.{put-none}
 use Rattle.cutting.specs.Cut.{partial-bytes}
 use Rattle.program.specs.Inner.Machines.{machine-of}
-use Rattle.program.proofs.Feeding.Ending.{none-printed, none-after, begun-printed, begun-after}
+use Rattle.program.proofs.Feeding.Ending.{none-printed, none-after, none-known, begun-printed, begun-after, begun-known}
 use Rattle.program.proofs.Feeding.Known.{state-room}
 use Rattle.program.proofs.feed.last_line.Statement.{statement}
 use Rattle.program.proofs.feed.last_line.Tie as tie
@@ -25,7 +25,7 @@ full c =
 returns : tie.Need-returns
 unfolding machine-of partial-bytes
 returns c =
-    let s = c .before .before .before .before in
+    let s = c .before .before .before .before .before in
     let a = s .args in
     let m = machine-of (a .state) in
     let none = full s ∙ c .if1 .taken in
@@ -33,6 +33,7 @@ returns c =
     record {
       good = s .pre .0;
       session = sym (none-after m none);
+      printer = sym (none-known m none);
       end = rw e (omega arith);
       within = omega arith;
       bytes = rw e (sym (put-none (a .out .now) (a .at)));
@@ -40,11 +41,11 @@ returns c =
 
 array-share-prefix-bytes : tie.Need-array-share-prefix-bytes
 array-share-prefix-bytes c =
-    let s = c .before .before .before .before .before in
+    let s = c .before .before .before .before .before .before in
     omega (arith, state-room (s .args .state) _ (s .good .0), s .pre .1 .0)
 
 slice-aggregate-answer-line : tie.Need-slice-aggregate-answer-line
-slice-aggregate-answer-line c = sym (full (c .before .before .before .before .before .before))
+slice-aggregate-answer-line c = sym (full (c .before .before .before .before .before .before .before))
 
 answer-line-requires : tie.Need-answer-line-requires
 answer-line-requires c κs = search needs
@@ -56,15 +57,16 @@ returns-2 : tie.Need-returns-2
 unfolding machine-of partial-bytes line-step
 returns-2 c =
     let t = c .before .before .before .before .before .before in
-    let s = t .before .before .before .before in
+    let s = t .before .before .before .before .before in
     let a = s .args in
     let m = machine-of (a .state) in
     let begun : length (m .partial) ≡ 0 → ⊥ = λ z. t .if1 .left (sym (full s) ∙ z) in
-    let r = c .before .before .answer-line .ensures in
+    let r = c .before .before .answer-line .ensures .given in
     let e = begun-printed m begun in
     record {
       good = r .good;
       session = r .session ∙ sym (begun-after m begun);
+      printer = r .printer ∙ sym (begun-known m begun);
       end = r .end ∙ sym (ap (λ (x : Bytes). a .at + length x) e);
       within = r .within;
       bytes = r .bytes ∙ sym (ap (put (a .out .now) (a .at)) e);

@@ -10,15 +10,16 @@ use lib.Seq.{length-take-le}
 use Rattle.streams.specs.Got.{Within}
 use Rattle.answers.specs.Printed.{answer-room}
 use Rattle.program.specs.Runs.{buffer-length, most-read}
+use Rattle.program.specs.Inner.Printers.{program-of}
 use Rattle.program.proofs.Running.Inputs.{SoFar, nothing-read, stopped, too-long, chunk-more, chunk-part}
 use Rattle.program.proofs.run.run.Statement.{statement}
 use Rattle.program.proofs.run.run.Tie as tie
 
 abbrev Inv-loop : tie.InvT-loop
-Inv-loop state₀ chunk₀ out₀ read₀ written₀ state chunk out read written = SoFar state read written × (length chunk ≡ buffer-length) × (length out ≡ buffer-length)
+Inv-loop program state₀ chunk₀ out₀ read₀ written₀ state chunk out read written = SoFar (program-of program) state read written × (length chunk ≡ buffer-length) × (length out ≡ buffer-length)
 
 abbrev μ-loop : tie.MeasureT-loop
-μ-loop state₀ chunk₀ out₀ read₀ written₀ state chunk out read written = most-read - read
+μ-loop program state₀ chunk₀ out₀ read₀ written₀ state chunk out read written = most-read - read
 
 new-state-requires : tie.Need-new-state-requires Inv-loop μ-loop
 new-state-requires c κs = search needs
@@ -53,7 +54,7 @@ unfolding most-read answer-room buffer-length
 stop-requires c κs =
     let v = c .before .before .before .before .before .before .loop .inv in
     let t = c .before .before .before .before .before .loop-test .taken in
-    (v .0 .good, (v .0 .partial, v .2, omega (arith, v .0 .few, t)))
+    (v .0 .good, (v .0 .partial, omega (arith, v .0 .number, t), v .2, omega (arith, v .0 .few, t)))
 
 returns : tie.Need-returns Inv-loop μ-loop
 returns c = stopped (c .before .before .before .before .before .before .before .before .loop .inv .0) (c .before .stop .ensures)

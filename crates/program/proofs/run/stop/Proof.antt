@@ -8,15 +8,12 @@ use Rattle.program.proofs.run.stop.Tie as tie
 enum-told : tie.Need-enum-told
 enum-told c = search needs
 
-slice-aggregate-fail : tie.Need-slice-aggregate-fail
-slice-aggregate-fail c = search needs
-
-fail-requires : tie.Need-fail-requires
-fail-requires c κs = search needs
+unread-requires : tie.Need-unread-requires
+unread-requires c κs = search needs
 
 returns : tie.Need-returns
 unfolding EndsSo
-returns c = record { same = refl; ends = λ input e n. n }
+returns c = rw (c .unread .ensures) (record { same = refl; ends = λ g input e n. n })
 
 finish-requires : tie.Need-finish-requires
 finish-requires c κs = search needs
@@ -28,13 +25,4 @@ returns-2 : tie.Need-returns-2
 returns-2 c = search needs
 
 pub stop-spec : {M : Type 1} → statement M
-stop-spec =
-    tie.close
-    (tie.spec
-    enum-told
-    slice-aggregate-fail
-    fail-requires
-    returns
-    finish-requires
-    same-length
-    returns-2)
+stop-spec = tie.close (tie.spec enum-told unread-requires returns finish-requires same-length returns-2)

@@ -1,5 +1,6 @@
--- `program::session::answer_line`: the step's answer is printed. Assumes nothing.
-use mathlib.Core.Path.{refl, sym, ap, _∙_}
+-- `answer_line`: the step's answer is printed.
+use mathlib.Core.Path.{sym, ap, _∙_}
+use mathlib.Core.List.{[], _∷_}
 use Prim.Native.Nat.{_+_, _≤_}
 use native.Mathlib.Omega.{arith}
 use borrow.Author.Needs.{needs}
@@ -7,9 +8,11 @@ use lib.ListN.{length, take}
 use lib.Seq.{length-take-le}
 use Rattle.board.specs.Limits.{places-held}
 use Rattle.lines.specs.Bytes.{Bytes}
-use Rattle.lines.specs.Output.{printed-answer}
+use Rattle.lines.specs.Session.{Answer}
+use Rattle.lines.specs.Printers.{answers-printed, printer-after}
 use Rattle.printing.specs.Lines.{put}
-use Rattle.answers.proofs.Room.{fits-put, fits-answer}
+use Rattle.answers.specs.Inner.Fits.{Fits}
+use Rattle.program.specs.Inner.Printers.{printer-of}
 use Rattle.program.proofs.session.answer_line.Statement.{statement}
 use Rattle.program.proofs.session.answer_line.Tie as tie
 
@@ -33,44 +36,57 @@ in-grades c = omega (arith, c .step-line .ensures .few, c .step-line .kept .1 .1
 
 step-line-requires : tie.Need-step-line-requires
 unfolding places-held
-step-line-requires c κs = (c .before .before .before .before .before .pre .0, (refl, refl, refl))
+step-line-requires c κs = search needs
 
 array-share-prefix-tickets : tie.Need-array-share-prefix-tickets
 array-share-prefix-tickets c = in-tickets (c .before .before .before)
 
-slice-aggregate-print-answer : tie.Need-slice-aggregate-print-answer
-slice-aggregate-print-answer c = sym (length-take-le _ _ (in-tickets (c .before .before .before .before)))
+slice-aggregate-print-by : tie.Need-slice-aggregate-print-by
+slice-aggregate-print-by c = sym (length-take-le _ _ (in-tickets (c .before .before .before .before)))
 
 array-share-prefix-grades : tie.Need-array-share-prefix-grades
 array-share-prefix-grades c = in-grades (c .before .before .before .before)
 
-slice-aggregate-print-answer-2 : tie.Need-slice-aggregate-print-answer-2
-slice-aggregate-print-answer-2 c = sym (length-take-le _ _ (in-grades (c .before .before .before .before .before)))
+slice-aggregate-print-by-2 : tie.Need-slice-aggregate-print-by-2
+slice-aggregate-print-by-2 c = sym (length-take-le _ _ (in-grades (c .before .before .before .before .before)))
 
-print-answer-requires : tie.Need-print-answer-requires
-print-answer-requires c κs = search needs
+-- where the line is answered
+abbrev start : tie.After-step-line → tie.Start
+start t = t .before .before .before .before .before .before
+
+-- an answer with these jobs fits
+fitting : (t : tie.After-step-line) →
+    let listed = t .step-line .result .listed in
+    Fits (take listed (t .step-line .last .1 .1 .0)) (take listed (t .step-line .last .1 .1 .1 .0)) (start t .args .at) (start t .args .out .now)
+fitting t =
+    let listed = t .step-line .result .listed in
+    let n = length-take-le listed (t .step-line .last .1 .1 .0) (in-tickets t) in
+    (omega (arith, n, t .step-line .ensures .few), length-take-le listed (t .step-line .last .1 .1 .1 .0) (in-grades t) ∙ sym n, start t .pre .1 .0)
+
+print-by-requires : tie.Need-print-by-requires
+print-by-requires c κs = let t = c .before .before .before .before .before .before in (fitting t, start t .pre .1 .1)
 
 same-length : tie.Need-same-length
 same-length c = search needs
 
 returns : tie.Need-returns
 returns c =
-    let t = c .before .before .before .before .before .before .before .before .before .before in
-    let s = t .before .before .before .before .before .before in
-    let a = s .args in
+    let p = c .before .before .before .before in
+    let t = p .before .before .before .before .before .before .before in
+    let a = start t .args in
     let d = t .step-line .ensures in
-    let listed = t .step-line .result .listed in
-    let n = length-take-le listed (t .step-line .last .1 .1 .0) (in-tickets t) in
-    let few : length (take listed (t .step-line .last .1 .1 .0)) ≤ places-held = omega (arith, n, d .few) in
-    let fits = fits-answer _ _ _ _ few (length-take-le _ _ (in-grades t) ∙ sym n) (s .pre .1) in
-    let p = fits-put _ fits (c .before .before .before .print-answer .ensures) in
-    let e = ap (printed-answer (a .number)) (d .answer) in
+    let r = p .print-by .ensures in
+    let e = ap (λ (x : Answer). answers-printed (printer-of (a .printer)) (x ∷ [])) (d .answer) in
     record {
-      good = d .good;
-      session = d .session;
-      end = p .end ∙ ap (λ (x : Bytes). a .at + length x) e;
-      within = p .within;
-      bytes = p .bytes ∙ ap (put (a .out .now) (a .at)) e;
+      given = record {
+        good = d .good;
+        session = d .session;
+        printer = r .known ∙ ap (printer-after (printer-of (a .printer))) (d .answer);
+        end = r .put .end ∙ ap (λ (x : Bytes). a .at + length x) e;
+        within = r .put .within;
+        bytes = r .put .bytes ∙ ap (put (a .out .now) (a .at)) e;
+      };
+      number = r .number;
     }
 
 pub answer-line-spec : {M : Type 1} → statement M
@@ -82,9 +98,9 @@ answer-line-spec =
     slice-aggregate-step-line-3
     step-line-requires
     array-share-prefix-tickets
-    slice-aggregate-print-answer
+    slice-aggregate-print-by
     array-share-prefix-grades
-    slice-aggregate-print-answer-2
-    print-answer-requires
+    slice-aggregate-print-by-2
+    print-by-requires
     same-length
     returns)
