@@ -2,11 +2,13 @@
  * The oven board, for callers in C and C++. Link with liboven.a (x86-64 Linux); it needs nothing but memcpy and memset.
  *
  * An oven bakes one rack in each slot. A rack comes with a ticket, a wait (how many slots it can still be baked in, this one
- * counted) and a grade, 0 the best. At the close of a slot the board names the rack to bake and the racks to give up.
+ * counted) and a grade, 0 the best. At the close of a slot the board names the rack to bake and the racks to give up. The sheet for
+ * the oven door has a page for every 48 closed slots.
  *
- * A board is a struct that the caller keeps. It goes into a call by value and comes back in the answer: keep what came back,
- * also after a refusal, and write nothing into it yourself. The calls keep nothing between them, so different boards may be used
- * at the same time. Whatever numbers a call is given, it returns, and says by the number in its answer whether it refused.
+ * A board is a struct that the caller keeps, and so is a page. It goes into a call by value and comes back in the answer: keep what
+ * came back, also after a refusal, and write nothing into it yourself. The calls keep nothing between them, so different boards and
+ * pages may be used at the same time. Whatever numbers a call is given, it returns, and says by the number in its answer whether it
+ * refused.
  */
 #ifndef OVEN_H
 #define OVEN_H
@@ -29,6 +31,10 @@ extern "C" {
 #define OVEN_KINDS 3
 #define OVEN_GRADES 8
 
+/* A page of the sheet for the oven door: slots on it, and bytes of its text, 50 lines of 24 and a line end each. */
+#define OVEN_PAGE_SLOTS 48
+#define OVEN_PAGE_LENGTH 1250
+
 /* The numbers of the refusals. A call checks in this order, and gives the first that holds. */
 enum oven_refusal {
     OVEN_NOT_REFUSED = 0,
@@ -41,7 +47,8 @@ enum oven_refusal {
     OVEN_REFUSED_SLOT_FULL = 7,     /* admitting: eight racks on the board were admitted in this slot */
     OVEN_REFUSED_LIST_SHORT = 8,    /* closing: lent list has fewer than 256 entries */
     OVEN_REFUSED_NO_SUCH_COUNT = 9, /* tally: kind above 2 or grade above 7 */
-    OVEN_REFUSED_COUNT_FULL = 10    /* tally: that count is already 8,000,000 */
+    OVEN_REFUSED_COUNT_FULL = 10,   /* tally: that count is already 8,000,000 */
+    OVEN_REFUSED_OFF_SHEET = 16     /* sheet: slot above 1,000,000, grade above 7 or more than 255 given up */
 };
 
 /* The kinds of event that a tally counts. */
@@ -90,7 +97,21 @@ typedef struct oven_tally {
     uint32_t counts[OVEN_KINDS * OVEN_GRADES];
 } oven_tally;
 
-/* The answers. Each has the number of the refusal; where it is not 0, all else in it but board and tally is 0. */
+/* A closing as the sheet has it: its slot, the rack baked, ticket 0 for none, and how many racks are given up. */
+typedef struct oven_figures {
+    oven_slot slot;
+    uint32_t ticket;
+    uint32_t grade;
+    uint32_t given_up;
+} oven_figures;
+
+/* A page of the sheet: its closings stand in the first `count` places, in all 48 where the count is more. */
+typedef struct oven_page {
+    size_t count;
+    oven_figures closings[OVEN_PAGE_SLOTS];
+} oven_page;
+
+/* The answers. Each has the number of the refusal; where it is not 0, all else in it but board, tally and page is 0. */
 typedef struct oven_opened {
     uint8_t refusal;
     oven_board board;
@@ -115,9 +136,15 @@ typedef struct oven_counted {
     oven_tally tally;
 } oven_counted;
 
+typedef struct oven_handed_over {
+    uint8_t refusal;
+    oven_page page;
+} oven_handed_over;
+
 /*
- * The calls. OVEN_STACK_.. is the stack, in bytes, that suffices for a call: its own, and the board or tally that it is given and
- * answers by value. Where boards pass it has room for the system's loader too, which may bind memcpy at the first call.
+ * The calls. OVEN_STACK_.. is the stack, in bytes, that suffices for a call: its own, and the board, tally or page that it is given
+ * and answers by value. Where it copies boards or pages it has room for the system's loader too, which may bind memcpy or memset at
+ * the first call.
  */
 
 /* A new board of this depth, 0 to 3: slot 1, highest ticket 0, no racks. Refuses with 1; the board is then all zero. */
@@ -162,6 +189,29 @@ uint8_t oven_note(oven_tally *tally, uint32_t kind, uint32_t grade);
 /* The same with the tally by value: the answer has the tally after the event. */
 #define OVEN_STACK_COUNT 1024
 oven_counted oven_count(oven_tally tally, uint32_t kind, uint32_t grade);
+
+/* A page without closings. */
+#define OVEN_STACK_PAGE_NEW 5120
+oven_page oven_page_new(void);
+
+/*
+ * Hands a closing to the page; the answer has the page with it. A full page takes no more: the closing begins the next page and is
+ * alone on it, so a page is printed once it is full. Refuses with 16; the page then comes back as it was.
+ */
+#define OVEN_STACK_PAGE_HAND_OVER 8192
+oven_handed_over oven_page_hand_over(oven_page page, oven_figures closing);
+
+/* Whether the page is full: it has 48 closings. */
+#define OVEN_STACK_PAGE_FULL 1536
+bool oven_page_full(oven_page page);
+
+/*
+ * Prints the page, full or not: writes the bytes of its text at the start of `out` and answers how many they are, OVEN_PAGE_LENGTH;
+ * the bytes after them keep what they had. `out` points to `length` bytes; where these are fewer it writes nothing and answers 0.
+ * A figure past the limits of number 16, which only a page written by the caller has, shows the last digits that fit.
+ */
+#define OVEN_STACK_PAGE_PRINT 8192
+size_t oven_page_print(oven_page page, uint8_t *out, size_t length);
 
 #ifdef __cplusplus
 }

@@ -15,6 +15,7 @@ use board::Tally;
 
 pub mod entries;
 pub mod lent;
+pub mod pages;
 
 #[no_mangle]
 pub extern "C" fn oven_sound(b: Board) -> bool

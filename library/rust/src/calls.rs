@@ -1,8 +1,9 @@
-//! The library's calls with their answers as they come: the number of a refusal, or 0, and the board or tally that came back.
+//! The library's calls with their answers as they come: the number of a refusal, or 0, and the board, tally or page that came back.
 
-use crate::{Board, Slot, Tally};
+use crate::{Board, Page, Slot, Tally};
 
 pub use crate::declared::{admit, close, close_into, count, note, open, sound, zero};
+pub use crate::declared::{page_full, page_hand_over, page_new, page_print};
 
 /// What opening answers.
 #[repr(C)]
@@ -50,4 +51,14 @@ pub struct CountAnswer {
     pub refusal: u8,
     /// The tally that came back.
     pub tally: Tally,
+}
+
+/// What a page answers to a closing.
+#[repr(C)]
+#[derive(Clone, Copy, Debug, PartialEq, Eq)]
+pub struct HandOverAnswer {
+    /// The number of a refusal, or 0.
+    pub refusal: u8,
+    /// The page that came back.
+    pub page: Page,
 }

@@ -4,8 +4,8 @@
 //! pointer leads to as many values as the number after it says, or to one.
 #![allow(unsafe_code)]
 
-use crate::calls::{AdmitAnswer, CloseAnswer, CountAnswer, OpenAnswer};
-use crate::{Board, Entry, Slot, Tally, Wait};
+use crate::calls::{AdmitAnswer, CloseAnswer, CountAnswer, HandOverAnswer, OpenAnswer};
+use crate::{Board, Entry, Figures, Page, Slot, Tally, Wait};
 
 extern "C" {
     fn oven_open(depth: u32) -> OpenAnswer;
@@ -24,6 +24,10 @@ extern "C" {
     fn oven_zero() -> Tally;
     fn oven_note(tally: *mut Tally, kind: u32, grade: u32) -> u8;
     fn oven_count(tally: Tally, kind: u32, grade: u32) -> CountAnswer;
+    fn oven_page_new() -> Page;
+    fn oven_page_hand_over(page: Page, closing: Figures) -> HandOverAnswer;
+    fn oven_page_full(page: Page) -> bool;
+    fn oven_page_print(page: Page, out: *mut u8, length: usize) -> usize;
 }
 
 /// A new board of this depth. Refuses with 1.
@@ -74,4 +78,24 @@ pub fn note(tally: &mut Tally, kind: u32, grade: u32) -> u8 {
 /// Takes in one event, the tally by value. Refuses with 9 or 10.
 pub fn count(tally: Tally, kind: u32, grade: u32) -> CountAnswer {
     unsafe { oven_count(tally, kind, grade) }
+}
+
+/// A page without closings.
+pub fn page_new() -> Page {
+    unsafe { oven_page_new() }
+}
+
+/// Hands a closing to the page; on a full one it begins the next page. Refuses with 16.
+pub fn page_hand_over(page: Page, closing: Figures) -> HandOverAnswer {
+    unsafe { oven_page_hand_over(page, closing) }
+}
+
+/// Whether the page is full.
+pub fn page_full(page: Page) -> bool {
+    unsafe { oven_page_full(page) }
+}
+
+/// Prints the page at the start of the bytes, and gives how many of them it wrote: [`Page::LENGTH`], or 0 where they are fewer.
+pub fn page_print(page: Page, out: &mut [u8]) -> usize {
+    unsafe { oven_page_print(page, out.as_mut_ptr(), out.len()) }
 }

@@ -1,7 +1,8 @@
 //! The oven board: which rack to bake in each slot, by calls that are proved.
 //!
 //! An oven bakes one rack in each slot. A rack comes with a ticket, a [`Wait`] and a grade, 0 the best. At the close of a slot the
-//! [`Board`] names the rack to bake and the racks to give up, and a [`Tally`] counts what became of them.
+//! [`Board`] names the rack to bake and the racks to give up, and a [`Tally`] counts what became of them. A [`Page`] has the closed
+//! slots as the sheet for the oven door shows them.
 //!
 //! ```
 //! use oven::{Baked, Board, Entry, Kind, Slot, Tally, Wait};
@@ -29,8 +30,10 @@ mod board;
 pub mod calls;
 mod declared;
 mod refusal;
+mod sheet;
 mod tally;
 
 pub use board::{Baked, Board, Closed, Entry, Place, Slot, Wait};
-pub use refusal::{AdmitRefusal, CloseRefusal, CountRefusal, OpenRefusal};
+pub use refusal::{AdmitRefusal, CloseRefusal, CountRefusal, HandOverRefusal, OpenRefusal};
+pub use sheet::{Figures, Page};
 pub use tally::{Kind, Tally};

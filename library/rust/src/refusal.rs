@@ -71,3 +71,9 @@ refusals! {
     NoSuchCount = 9, "kind above 2 or grade above 7";
     CountFull = 10, "that count is already 8,000,000";
 }
+
+refusals! {
+    /// Why a page refused a closing.
+    HandOverRefusal:
+    OffSheet = 16, "slot above 1,000,000, grade above 7 or more than 255 given up";
+}
