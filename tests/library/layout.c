@@ -29,6 +29,14 @@ static void places(void) {
     FIELD(oven_entry, admitted);
     STRUCT(oven_tally);
     FIELD(oven_tally, counts);
+    STRUCT(oven_figures);
+    FIELD(oven_figures, slot);
+    FIELD(oven_figures, ticket);
+    FIELD(oven_figures, grade);
+    FIELD(oven_figures, given_up);
+    STRUCT(oven_page);
+    FIELD(oven_page, count);
+    FIELD(oven_page, closings);
 }
 
 static void answers(void) {
@@ -48,6 +56,9 @@ static void answers(void) {
     STRUCT(oven_counted);
     FIELD(oven_counted, refusal);
     FIELD(oven_counted, tally);
+    STRUCT(oven_handed_over);
+    FIELD(oven_handed_over, refusal);
+    FIELD(oven_handed_over, page);
 }
 
 static void numbers(void) {
@@ -57,6 +68,8 @@ static void numbers(void) {
     NUMBER(OVEN_LAST_SLOT);
     NUMBER(OVEN_KINDS);
     NUMBER(OVEN_GRADES);
+    NUMBER(OVEN_PAGE_SLOTS);
+    NUMBER(OVEN_PAGE_LENGTH);
     NUMBER(OVEN_REFUSED_DEPTH);
     NUMBER(OVEN_REFUSED_UNSOUND);
     NUMBER(OVEN_REFUSED_BOOK_ENDED);
@@ -67,6 +80,7 @@ static void numbers(void) {
     NUMBER(OVEN_REFUSED_LIST_SHORT);
     NUMBER(OVEN_REFUSED_NO_SUCH_COUNT);
     NUMBER(OVEN_REFUSED_COUNT_FULL);
+    NUMBER(OVEN_REFUSED_OFF_SHEET);
     NUMBER(OVEN_KIND_ADMITTED);
     NUMBER(OVEN_KIND_BAKED);
     NUMBER(OVEN_KIND_GIVEN_UP);

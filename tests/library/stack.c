@@ -1,6 +1,6 @@
 /*
- * Each call on empty and full boards, refused ones too: its number, and the stack that it takes. The header's figure suffices, and
- * is not more than twice what is taken at the most. The last line is 'N passed, M failed'.
+ * Each call on empty and full boards and pages, refused ones too: its number, and the stack that it takes. The header's figure
+ * suffices, and is not more than twice what is taken at the most. The last line is 'N passed, M failed'.
  */
 #include "tried.h"
 
@@ -67,15 +67,32 @@ static void try_tally(void) {
     measure(ZERO);
 }
 
+/* Pages with so many closings, more than a page has too; every figure in its limits, and past them. */
+static void try_pages(void) {
+    oven_figures most = {{OVEN_LAST_SLOT}, UINT32_MAX, OVEN_GRADES - 1, 255}, past = {{UINT32_MAX}, UINT32_MAX, UINT32_MAX, UINT32_MAX};
+    try_page_new();
+    oven_page page = answer.page;
+    for (page.count = 0; page.count <= OVEN_PAGE_SLOTS + 1; page.count++) {
+        try_hand_over(page, most, OVEN_NOT_REFUSED);
+        try_hand_over(page, past, OVEN_REFUSED_OFF_SHEET);
+        try_page_full(page, page.count >= OVEN_PAGE_SLOTS);
+        try_print(page, OVEN_PAGE_LENGTH - 1, 0);
+        try_print(page, OVEN_PAGE_LENGTH, OVEN_PAGE_LENGTH);
+        if (page.count < OVEN_PAGE_SLOTS) page.closings[page.count] = page.count % 2 ? past : most;
+    }
+}
+
 int main(void) {
+    try_first();
     for (uint32_t depth = 0; depth <= 3; depth++) try_depth(depth);
     try_open(4, OVEN_REFUSED_DEPTH);
     try_unsound();
     try_ended();
     try_tally();
+    try_pages();
     for (int call = 0; call < CALLS; call++) {
         size_t most = calls[call].most, figure = calls[call].figure;
-        printf("%-15s takes %5zu bytes of stack at the most, the header says %5zu\n", calls[call].name, most, figure);
+        printf("%-19s takes %5zu bytes of stack at the most, the header says %5zu\n", calls[call].name, most, figure);
         expect(figure <= 2 * most, call, "the header says more than twice what is taken");
     }
     printf("%u passed, %u failed\n", passed, failed);

@@ -13,22 +13,28 @@ static struct {
     oven_wait wait;
     size_t length;
     oven_tally tally;
+    oven_page page;
+    oven_figures closing;
 } given;
 
 static struct {
-    bool sound;
+    bool sound, full;
     uint8_t number;
+    size_t printed;
     oven_opened opened;
     oven_admitted admitted;
     oven_closed closed;
     oven_counted counted;
     oven_tally tally;
+    oven_page page;
+    oven_handed_over handed_over;
 } answer;
 
 static oven_entry list[OVEN_PLACES];
 static uint32_t tickets[OVEN_PLACES];
 static uint8_t grades[OVEN_PLACES];
 static oven_slot slots[OVEN_PLACES];
+static uint8_t text[OVEN_PAGE_LENGTH];
 
 static void open_board(void) { answer.opened = oven_open(given.depth); }
 static void is_sound(void) { answer.sound = oven_sound(given.board); }
@@ -40,9 +46,13 @@ static void close_parts(void) {
 static void zero(void) { answer.tally = oven_zero(); }
 static void note(void) { answer.number = oven_note(&given.tally, given.kind, given.grade); }
 static void count(void) { answer.counted = oven_count(given.tally, given.kind, given.grade); }
+static void page_new(void) { answer.page = oven_page_new(); }
+static void page_hand_over(void) { answer.handed_over = oven_page_hand_over(given.page, given.closing); }
+static void page_full(void) { answer.full = oven_page_full(given.page); }
+static void page_print(void) { answer.printed = oven_page_print(given.page, text, given.length); }
 
 /* The calls, with the header's figure and the most that was seen. */
-enum call { OPEN, SOUND, ADMIT, CLOSE_INTO, CLOSE, ZERO, NOTE, COUNT, CALLS };
+enum call { OPEN, SOUND, ADMIT, CLOSE_INTO, CLOSE, ZERO, NOTE, COUNT, PAGE_NEW, PAGE_HAND_OVER, PAGE_FULL, PAGE_PRINT, CALLS };
 
 static struct {
     const char *name;
@@ -57,6 +67,10 @@ static struct {
     {"oven_zero", zero, OVEN_STACK_ZERO, 0},
     {"oven_note", note, OVEN_STACK_NOTE, 0},
     {"oven_count", count, OVEN_STACK_COUNT, 0},
+    {"oven_page_new", page_new, OVEN_STACK_PAGE_NEW, 0},
+    {"oven_page_hand_over", page_hand_over, OVEN_STACK_PAGE_HAND_OVER, 0},
+    {"oven_page_full", page_full, OVEN_STACK_PAGE_FULL, 0},
+    {"oven_page_print", page_print, OVEN_STACK_PAGE_PRINT, 0},
 };
 
 static unsigned passed, failed;
@@ -70,10 +84,17 @@ static void expect(bool holds, enum call call, const char *what) {
     if (failed <= 5) printf("%s: %s\n", calls[call].name, what);
 }
 
-static void measure(enum call call) {
-    size_t taken = stack_of(calls[call].run);
+static void take(enum call call, size_t taken) {
     if (calls[call].most < taken) calls[call].most = taken;
     expect(taken <= calls[call].figure, call, "takes more stack than the header says");
+}
+
+static void measure(enum call call) { take(call, stack_of(calls[call].run)); }
+
+/* Each call as the first of a process, on zeros, with room for a page. */
+static void try_first(void) {
+    given.length = OVEN_PAGE_LENGTH;
+    for (int call = 0; call < CALLS; call++) take(call, stack_of_first(calls[call].run));
 }
 
 static void try_open(uint32_t depth, uint8_t number) {
@@ -114,4 +135,29 @@ static void try_count(uint32_t kind, uint32_t grade, uint32_t before, uint8_t nu
     expect(answer.counted.refusal == number, COUNT, "another number");
     measure(NOTE);
     expect(answer.number == number, NOTE, "another number");
+}
+
+static void try_page_new(void) {
+    measure(PAGE_NEW);
+    expect(answer.page.count == 0, PAGE_NEW, "another page");
+}
+
+static void try_hand_over(oven_page page, oven_figures closing, uint8_t number) {
+    given.page = page;
+    given.closing = closing;
+    measure(PAGE_HAND_OVER);
+    expect(answer.handed_over.refusal == number, PAGE_HAND_OVER, "another number");
+}
+
+static void try_page_full(oven_page page, bool full) {
+    given.page = page;
+    measure(PAGE_FULL);
+    expect(answer.full == full, PAGE_FULL, "another answer");
+}
+
+static void try_print(oven_page page, size_t length, size_t printed) {
+    given.page = page;
+    given.length = length;
+    measure(PAGE_PRINT);
+    expect(answer.printed == printed, PAGE_PRINT, "another end");
 }

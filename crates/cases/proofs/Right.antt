@@ -19,6 +19,7 @@ use Rattle.claims.specs.Calls.{Call, admit, close, board-after}
 use Rattle.claims.specs.OurPlan.{our-plan}
 use Rattle.claims.specs.Demand3.{book-of}
 use Rattle.lines.specs.Output.{output}
+use Rattle.lines.specs.Sheet.{Figures, page, sheet, sheet-number, page-after}
 
 -- equal lists of numbers, and lists of these
 unfoldable pub same : List ℕ → List ℕ → Bool
@@ -73,3 +74,19 @@ book-right d k h cs told most =
 -- a day's input and output
 unfoldable pub day-right : List ℕ → List ℕ → Bool
 day-right input printed = same (output input) printed
+
+-- the sheet of a day
+unfoldable pub sheet-right : List ℕ → List ℕ → Bool
+sheet-right input printed = same (sheet input) printed
+
+-- a closing's figures as numbers
+unfoldable pub figures : (slot ticket grade given-up : ℕ) → Figures
+figures k t g n = record { slot = k; ticket = t; grade = g; given-up = n }
+
+unfoldable pub numbers : Figures → List ℕ
+numbers f = f .slot ∷ f .ticket ∷ f .grade ∷ f .given-up ∷ []
+
+-- a closing handed to a page: the number, the closings on the page after it, and its text
+unfoldable pub page-right : List Figures → Figures → ℕ → List (List ℕ) → List ℕ → Bool
+page-right p f number after text =
+    eqb (sheet-number f) number && same-all (map numbers (page-after p f)) after && same (page (page-after p f)) text

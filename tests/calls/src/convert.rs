@@ -1,7 +1,8 @@
-//! A board of the model as the library has it.
+//! A board of the model as the library has it, and the other way a page's closings.
 
 use model::board::{self, Job};
-use oven::{Board, Place, Slot};
+use model::sheet;
+use oven::{Board, Figures, Place, Slot};
 
 pub fn board(b: &board::Board) -> Board {
     Board {
@@ -19,5 +20,14 @@ fn place(job: Job) -> Place {
         admitted: Slot(job.admitted),
         last: Slot(job.deadline),
         grade: job.grade as u8,
+    }
+}
+
+pub fn figures(closing: Figures) -> sheet::Figures {
+    sheet::Figures {
+        slot: closing.slot.0,
+        ticket: closing.ticket,
+        grade: closing.grade,
+        given_up: closing.given_up,
     }
 }

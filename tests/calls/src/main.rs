@@ -1,14 +1,15 @@
 //! Compares the library's calls, by both layers of its Rust crate, with the model's.
 //!
 //! Random sound boards, full ones, boards damaged in one clause, boundary boards,
-//! short lent lists, tallies at their limits, and runs of calls. Its last line is
-//! 'N passed, M failed'.
+//! short lent lists, tallies at their limits, pages of any count and any figures, and
+//! runs of calls. Its last line is 'N passed, M failed'.
 
 mod admitting;
 mod boards;
 mod closing;
 mod convert;
 mod count;
+mod pages;
 mod refusals;
 mod tallies;
 
@@ -20,7 +21,9 @@ use std::process;
 const BOARDS: u64 = 20_000;
 /// Tallies tried.
 const TALLIES: u64 = 20_000;
-/// Runs of calls tried.
+/// Pages tried.
+const PAGES: u64 = 20_000;
+/// Runs of calls tried, on a board and on a page.
 const RUNS: u64 = 300;
 
 /// Calls one after the other on one board, each on what the call before handed back.
@@ -61,8 +64,15 @@ fn main() {
     for _ in 0..TALLIES {
         count.take("event", tallies::event(&mut draw));
     }
+    for (name, passed) in pages::at_the_limits(&mut draw) {
+        count.take(name, passed);
+    }
+    for _ in 0..PAGES {
+        count.take("page", pages::any(&mut draw));
+    }
     for _ in 0..RUNS {
         count.take("run", run(&mut draw));
+        count.take("run of a page", pages::run(&mut draw));
     }
     println!("{} passed, {} failed", count.passed, count.failed);
     process::exit(i32::from(count.failed > 0));

@@ -1,7 +1,7 @@
 //! The model's refusals as the crate's enums have them.
 
 use model::refusal::Refusal;
-use oven::{AdmitRefusal, CloseRefusal, CountRefusal, OpenRefusal};
+use oven::{AdmitRefusal, CloseRefusal, CountRefusal, HandOverRefusal, OpenRefusal};
 
 /// The number of the model's answer.
 pub fn number<T>(answer: &Result<T, Refusal>) -> u8 {
@@ -47,5 +47,12 @@ pub fn counting(refusal: Refusal) -> Numbered<CountRefusal> {
         Refusal::NoSuchCount => (CountRefusal::NoSuchCount, 9),
         Refusal::CountFull => (CountRefusal::CountFull, 10),
         other => panic!("counting never gives {other:?}"),
+    }
+}
+
+pub fn handing_over(refusal: Refusal) -> Numbered<HandOverRefusal> {
+    match refusal {
+        Refusal::OffSheet => (HandOverRefusal::OffSheet, 16),
+        other => panic!("handing over never gives {other:?}"),
     }
 }

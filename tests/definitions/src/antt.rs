@@ -12,7 +12,7 @@ use mathlib.Core.List.{List, [], _∷_}
 use Prim.Native.Nat.{ℕ}
 use Rattle.lists.specs.Select.{every}
 use Rattle.claims.specs.Calls.{admit, close}
-use Rattle.cases.proofs.Right.{place, board, sound-right, close-right, book-right, day-right}
+use Rattle.cases.proofs.Right.{place, board, sound-right, close-right, book-right, day-right, sheet-right, figures, page-right}
 ";
 
 /// A module that holds if every case does.
@@ -34,10 +34,13 @@ pub fn list<T: ToString>(items: &[T]) -> String {
     format!("({text}[])")
 }
 
-/// The definitions that a case computes with, by their whole names: all that the
-/// crates' specs/ mark `unfoldable`, and those of the crate `cases`.
+/// The library's definitions that a case computes with.
+const LIBRARY: [&str; 2] = ["mathlib.Core.List.flatten", "mathlib.Core.List.flatMap"];
+
+/// The definitions that a case computes with, by their whole names: those of the
+/// library, all that the crates' specs/ mark `unfoldable`, and those of `cases`.
 pub fn unfoldable_names(crates: &Path) -> io::Result<String> {
-    let mut names = Vec::new();
+    let mut names: Vec<String> = LIBRARY.iter().map(ToString::to_string).collect();
     for name in ["lists", "rule", "books", "board", "claims", "lines"] {
         let folder = crates.join(name).join("specs");
         for module in modules(&folder)? {

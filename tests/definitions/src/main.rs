@@ -1,12 +1,13 @@
 //! Writes cases with the model's answers as modules of the crate `cases`.
 //!
 //! `definitions CRATES COUNT SEED < LINES` reads the lines that the model's
-//! programs `cases` and `sound` print, makes COUNT small days besides, and writes
+//! programs `cases` and `sound` print, makes COUNT small days and some pages besides, and writes
 //! modules below CRATES/cases/proofs, a few cases each. It prints the number of
 //! cases written.
 
 mod antt;
 mod days;
+mod pages;
 mod parse;
 
 use std::env;
@@ -35,6 +36,7 @@ fn main() -> io::Result<()> {
         cases.push(parse::case(&line?));
     }
     cases.extend(days::cases(numbers[0], numbers[1]));
+    cases.extend(pages::cases());
     write_modules(&crates, &cases)?;
     println!("{}", cases.len());
     Ok(())

@@ -1,8 +1,8 @@
 //! The Rust crate's structs, limits and numbers, a line for each, as layout.c prints those of the C header.
 
-use oven::calls::{AdmitAnswer, CloseAnswer, CountAnswer, OpenAnswer};
-use oven::{AdmitRefusal, Board, CloseRefusal, CountRefusal, Entry, Kind, OpenRefusal};
-use oven::{Place, Slot, Tally, Wait};
+use oven::calls::{AdmitAnswer, CloseAnswer, CountAnswer, HandOverAnswer, OpenAnswer};
+use oven::{AdmitRefusal, CloseRefusal, CountRefusal, HandOverRefusal, OpenRefusal};
+use oven::{Board, Entry, Figures, Kind, Page, Place, Slot, Tally, Wait};
 use std::mem::{size_of, size_of_val};
 
 /// Prints a struct's size, and the place and size of each field, by the header's names.
@@ -25,6 +25,8 @@ fn places() {
     layout!("oven_board", Board, board, depth "depth", slot "slot", highest "highest", count "count", places "places");
     layout!("oven_entry", Entry, Entry::default(), ticket "ticket", grade "grade", admitted "admitted");
     layout!("oven_tally", Tally, Tally::new(), counts "counts");
+    layout!("oven_figures", Figures, Figures::default(), slot "slot", ticket "ticket", grade "grade", given_up "given_up");
+    layout!("oven_page", Page, Page::new(), count "count", closings "closings");
 }
 
 fn answers() {
@@ -32,10 +34,12 @@ fn answers() {
     let admitted = oven::calls::admit(opened.board, 1, Wait(1), 0);
     let closed = oven::calls::close_into(opened.board, &mut []);
     let counted = oven::calls::count(Tally::new(), 0, 0);
+    let handed_over = oven::calls::page_hand_over(Page::new(), Figures::default());
     layout!("oven_opened", OpenAnswer, opened, refusal "refusal", board "board");
     layout!("oven_admitted", AdmitAnswer, admitted, refusal "refusal", last "last", board "board");
     layout!("oven_closed", CloseAnswer, closed, refusal "refusal", ticket "ticket", grade "grade", given_up "given_up", board "board");
     layout!("oven_counted", CountAnswer, counted, refusal "refusal", tally "tally");
+    layout!("oven_handed_over", HandOverAnswer, handed_over, refusal "refusal", page "page");
 }
 
 fn numbers() {
@@ -45,6 +49,8 @@ fn numbers() {
     println!("OVEN_LAST_SLOT: {}", Board::LAST_SLOT.0);
     println!("OVEN_KINDS: {}", Tally::KINDS);
     println!("OVEN_GRADES: {}", Tally::GRADES);
+    println!("OVEN_PAGE_SLOTS: {}", Page::SLOTS);
+    println!("OVEN_PAGE_LENGTH: {}", Page::LENGTH);
     let refused = |name, number| println!("OVEN_REFUSED_{name}: {number}");
     refused("DEPTH", OpenRefusal::Depth.number());
     refused("UNSOUND", AdmitRefusal::Unsound.number());
@@ -56,6 +62,7 @@ fn numbers() {
     refused("LIST_SHORT", CloseRefusal::ListShort.number());
     refused("NO_SUCH_COUNT", CountRefusal::NoSuchCount.number());
     refused("COUNT_FULL", CountRefusal::CountFull.number());
+    refused("OFF_SHEET", HandOverRefusal::OffSheet.number());
     println!("OVEN_KIND_ADMITTED: {}", Kind::Admitted as u32);
     println!("OVEN_KIND_BAKED: {}", Kind::Baked as u32);
     println!("OVEN_KIND_GIVEN_UP: {}", Kind::GivenUp as u32);

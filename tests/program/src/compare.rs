@@ -1,14 +1,22 @@
 //! Outputs compared: G lines after one B as a set, everything else exactly.
 
-/// The first line, from 1, at which two outputs differ, if they do.
+/// The first line, from 1, at which two outputs of the board differ, if they do.
 pub fn difference(printed: &[u8], expected: &[u8]) -> Option<usize> {
     if printed == expected {
         return None;
     }
-    let (printed, expected) = (settled(printed), settled(expected));
+    first_difference(&settled(printed), &settled(expected))
+}
+
+/// The first line, from 1, at which two outputs differ by a byte, if they do.
+pub fn exact(printed: &[u8], expected: &[u8]) -> Option<usize> {
+    first_difference(&lines(printed), &lines(expected))
+}
+
+fn first_difference(printed: &[&[u8]], expected: &[&[u8]]) -> Option<usize> {
     let same = printed
         .iter()
-        .zip(&expected)
+        .zip(expected)
         .take_while(|(a, b)| a == b)
         .count();
     if same == printed.len() && same == expected.len() {
@@ -17,9 +25,14 @@ pub fn difference(printed: &[u8], expected: &[u8]) -> Option<usize> {
     Some(same + 1)
 }
 
+/// The lines, each with its end.
+fn lines(output: &[u8]) -> Vec<&[u8]> {
+    output.split_inclusive(|byte| *byte == b'\n').collect()
+}
+
 /// The lines, each with its end, the G lines after one line that is none sorted.
 fn settled(output: &[u8]) -> Vec<&[u8]> {
-    let mut lines: Vec<&[u8]> = output.split_inclusive(|byte| *byte == b'\n').collect();
+    let mut lines = lines(output);
     let mut start = 0;
     while start < lines.len() {
         let rest = &lines[start..];
@@ -35,7 +48,7 @@ fn settled(output: &[u8]) -> Vec<&[u8]> {
 
 #[cfg(test)]
 mod tests {
-    use super::difference;
+    use super::{difference, exact};
 
     #[test]
     fn given_up_lines_are_a_set_after_their_own_line_only() {
@@ -52,5 +65,15 @@ mod tests {
     fn a_missing_line_end_is_a_difference() {
         assert_eq!(difference(b"D,1\nT,0,0,0,0", b"D,1\nT,0,0,0,0\n"), Some(2));
         assert_eq!(difference(b"D,1\n", b"D,1\nR,2,12\n"), Some(2));
+    }
+    #[test]
+    fn a_byte_of_the_sheet_is_a_difference() {
+        assert_eq!(exact(b"", b""), None);
+        assert_eq!(exact(b"  1 0\n  2 0\n", b"  1 0\n  2 0\n"), None);
+        assert_eq!(exact(b"  1 0\n 2  0\n", b"  1 0\n  2 0\n"), Some(2));
+        assert_eq!(exact(b"  1 0\n  2 0\n", b"  1 0\n  2 0"), Some(2));
+        assert_eq!(exact(b"  1 0\n", b""), Some(1));
+        assert_eq!(exact(b"  1 0\n", b"  1 0\n  2 0\n"), Some(2));
+        assert_eq!(exact(b"G,2\nG,1\n", b"G,1\nG,2\n"), Some(1));
     }
 }

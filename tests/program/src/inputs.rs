@@ -1,9 +1,12 @@
 //! The inputs.
 
-use model::inputs::KINDS;
+use model::inputs::{Kind, KINDS};
 
 /// Bytes that the program reads at once, at the most.
 const READ_BUFFER: usize = 65_536;
+
+/// Closings of a day about as many as pages hold.
+const CLOSINGS: [u32; 7] = [0, 1, 47, 48, 49, 96, 97];
 
 pub struct Case {
     pub name: String,
@@ -78,10 +81,9 @@ fn generated() -> Vec<Case> {
             continue;
         }
         for seed in 0..300 {
-            let size = [None, Some(1), Some(3), Some(20)][seed as usize % 4];
             cases.push(case(
                 format!("{} {seed}", kind.name),
-                kind.input(seed, size),
+                kind.input(seed, size(kind, seed as usize)),
                 0,
             ));
         }
@@ -89,15 +91,24 @@ fn generated() -> Vec<Case> {
     cases
 }
 
-/// Small days written a few bytes at a time.
+/// The size of a kind's input, the sizes in turn.
+fn size(kind: &Kind, turn: usize) -> Option<u32> {
+    if kind.name == "pages" {
+        return Some(CLOSINGS[turn % CLOSINGS.len()]);
+    }
+    [None, Some(1), Some(3), Some(20)][turn % 4]
+}
+
+/// Small days, and days of three pages, written a few bytes at a time.
 fn in_pieces() -> Vec<Case> {
     let mut cases = Vec::new();
     for (number, kind) in KINDS.iter().filter(|kind| kind.name != "end").enumerate() {
         for piece in [1, 2, 3, 7, 40] {
             let seed = (1_000 + number) as u64;
+            let size = if kind.name == "pages" { 97 } else { 10 };
             cases.push(case(
                 format!("{} by {piece}", kind.name),
-                kind.input(seed, Some(10)),
+                kind.input(seed, Some(size)),
                 piece,
             ));
         }

@@ -16,7 +16,8 @@ pub fn program(binary: &str, input: &[u8], piece: usize) -> Vec<u8> {
     }
 }
 
-fn started(binary: &str, stdin: Stdio) -> Child {
+/// The program, started, with its output in a pipe.
+pub fn started(binary: &str, stdin: Stdio) -> Child {
     let mut command = Command::new(binary);
     command.stdin(stdin).stdout(Stdio::piped());
     command.spawn().expect("the program starts")
@@ -29,9 +30,14 @@ fn printed(mut child: Child) -> Vec<u8> {
     stdout
         .read_to_end(&mut printed)
         .expect("the program's output");
+    ended(child);
+    printed
+}
+
+/// The program ends, and well.
+pub fn ended(mut child: Child) {
     let status = child.wait().expect("the program ends");
     assert!(status.success(), "the program ended with {status}");
-    printed
 }
 
 fn from_file(binary: &str, input: &[u8]) -> Vec<u8> {

@@ -1,4 +1,5 @@
-//! The program in a shop's hands: `shop BINARY FAULT`. FAULT is the library that disturbs reads and writes. The last line is 'N passed, M failed'.
+//! The programs in a shop's hands: `shop BOARD SHEET FAULT`. FAULT is the library that disturbs reads and writes. The last line is
+//! 'N passed, M failed'.
 
 mod days;
 mod failures;
@@ -6,39 +7,46 @@ mod started;
 mod system;
 mod till;
 
+use days::Program;
 use std::{env, process};
+
+/// Each test and whether it passed.
+fn tested(program: &Program, fault: &str) -> [(&'static str, bool); 14] {
+    [
+        ("a till, piece by piece", till::piece_by_piece(program, &program.sample)),
+        ("a line in pieces", till::piece_by_piece(program, &program.in_pieces)),
+        ("a terminal", till::terminal(program, false)),
+        ("a terminal, ^C", till::terminal(program, true)),
+        ("a slow reader that does not wait", till::nonblocking_reader(program)),
+        ("a slow writer that does not wait", till::nonblocking_writer(program)),
+        ("a full disk", failures::full_disk(program)),
+        ("a closed pipe", failures::closed_pipe(program, false)),
+        ("a closed pipe, the signal ignored", failures::closed_pipe(program, true)),
+        ("a file's limit", failures::file_limit(program)),
+        ("a folder as input", failures::directory(program)),
+        ("an input that breaks off", failures::broken_off(program)),
+        ("disturbed reads and writes", failures::disturbed(program, fault)),
+        ("exit statuses", failures::statuses(program)),
+    ]
+}
 
 fn main() {
     let words: Vec<String> = env::args().skip(1).collect();
-    if words.len() != 2 {
-        eprintln!("use: shop BINARY FAULT");
+    if words.len() != 3 {
+        eprintln!("use: shop BOARD SHEET FAULT");
         process::exit(2);
     }
-    let (binary, fault) = (&words[0][..], &words[1][..]);
-    let tests: [(&str, &dyn Fn() -> bool); 14] = [
-        ("a till, line by line", &|| till::line_by_line(binary)),
-        ("a line in pieces", &|| till::in_pieces(binary)),
-        ("a terminal", &|| till::terminal(binary, false)),
-        ("a terminal, ^C", &|| till::terminal(binary, true)),
-        ("a slow reader that does not wait", &|| till::nonblocking_reader(binary)),
-        ("a slow writer that does not wait", &|| till::nonblocking_writer(binary)),
-        ("a full disk", &|| failures::full_disk(binary)),
-        ("a closed pipe", &|| failures::closed_pipe(binary, false)),
-        ("a closed pipe, the signal ignored", &|| failures::closed_pipe(binary, true)),
-        ("a file's limit", &|| failures::file_limit(binary)),
-        ("a folder as input", &|| failures::directory(binary)),
-        ("an input that breaks off", &|| failures::broken_off(binary)),
-        ("disturbed reads and writes", &|| failures::disturbed(binary, fault)),
-        ("exit statuses", &|| failures::statuses(binary)),
-    ];
-    let mut passed = 0;
-    for (name, test) in &tests {
-        if test() {
-            passed += 1;
-        } else {
-            println!("{name}: failed");
+    let (mut passed, mut failed) = (0, 0);
+    for program in [days::board(&words[0]), days::sheet(&words[1])] {
+        for (name, well) in tested(&program, &words[2]) {
+            if well {
+                passed += 1;
+            } else {
+                failed += 1;
+                println!("{}: {name}: failed", program.name);
+            }
         }
     }
-    println!("{passed} passed, {} failed", tests.len() - passed);
-    process::exit(i32::from(passed < tests.len()));
+    println!("{passed} passed, {failed} failed");
+    process::exit(i32::from(failed > 0));
 }

@@ -85,6 +85,19 @@ impl Started {
     }
 }
 
+/// The status of a program that ends in time; one that does not is ended.
+pub fn ended(child: &mut Child) -> Option<ExitStatus> {
+    let end = Instant::now() + PATIENCE;
+    while Instant::now() < end {
+        if let Some(status) = child.try_wait().expect("it is looked at") {
+            return Some(status);
+        }
+        thread::sleep(Duration::from_millis(5));
+    }
+    child.kill().and_then(|()| child.wait()).expect("it is ended");
+    None
+}
+
 /// The output of a command on an input, what it said, and its status.
 pub fn whole(command: &mut Command, input: Stdio, output: Stdio) -> (Vec<u8>, String, ExitStatus) {
     command.stdin(input).stdout(output).stderr(Stdio::piped());

@@ -12,6 +12,8 @@ const O_RDWR: i32 = 2;
 const O_NOCTTY: i32 = 0o400;
 const O_CLOEXEC: i32 = 0o2_000_000;
 const TIOCSCTTY: u64 = 0x540E;
+const SIGINT: i32 = 2;
+const SIG_DFL: usize = 0;
 
 /// Room for C's termios, of which nothing is read here.
 #[repr(C, align(8))]
@@ -28,6 +30,7 @@ extern "C" {
     fn cfmakeraw(modes: *mut Modes);
     fn tcsetattr(fd: i32, when: i32, modes: *const Modes) -> i32;
     fn setsid() -> i32;
+    fn signal(number: i32, action: usize) -> usize;
     fn ioctl(fd: i32, request: u64, ...) -> i32;
 }
 
@@ -71,13 +74,15 @@ pub fn make_raw(fd: RawFd) {
     checked(unsafe { tcsetattr(fd, 0, &modes) });
 }
 
-/// The command runs in a session of its own, with its standard input as the session's terminal.
+/// The command runs in a session of its own, with its standard input as the session's terminal. ^C ends it there, also where whoever started this
+/// ignores it, as a shell makes a command in the background do.
 pub fn at_the_terminal(command: &mut Command) {
     use std::os::unix::process::CommandExt;
     unsafe {
         command.pre_exec(|| {
             checked(setsid());
             checked(ioctl(0, TIOCSCTTY, 0));
+            signal(SIGINT, SIG_DFL);
             Ok(())
         });
     }
