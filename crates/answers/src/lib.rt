@@ -90,7 +90,7 @@ fn print_closing(
 }
 
 // Whether an answer may be printed: with no more jobs than a board holds, as many grades as tickets, and room for any answer.
-fn answer_fits(tickets: usize, grades: usize, at: usize, end: usize) -> bool
+pub fn answer_fits(tickets: usize, grades: usize, at: usize, end: usize) -> bool
     ensures { λ r. ⌜ r ≡ answer-fits tickets grades at end ⌝ }
 {
     if Board::PLACES < tickets {

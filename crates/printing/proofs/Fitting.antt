@@ -1,6 +1,7 @@
 -- Bytes put where they fit.
-use mathlib.Core.Path.{_≡_, sym, ap, _∙_}
+use mathlib.Core.Path.{_≡_, refl, sym, subst, ap, _∙_}
 use mathlib.Core.Bool.{Bool, true, false, cond}
+use mathlib.Core.List.{[]}
 use mathlib.Core.Logic.{_⊎_, inl, inr}
 use Prim.Native.Nat.{ℕ, _+_, _-_, _≤_, _<_}
 use native.Mathlib.Omega.{arith}
@@ -11,6 +12,7 @@ use Rattle.lists.proofs.Tests.{cmp}
 use Rattle.lines.specs.Bytes.{Bytes}
 use Rattle.printing.specs.Lines.{put}
 use Rattle.printing.specs.Puts.{PutWithin, PutIf}
+use Rattle.printing.proofs.Pieces.{put-as, put-nil}
 
 -- no sum is needed
 pub leb-difference : (most at end : ℕ) → at ≤ end → leb most (end - at) ≡ leb (at + most) end
@@ -38,6 +40,10 @@ module _ {most : ℕ} {bs out : Bytes} {at r : ℕ} {out' : Bytes} where
         bytes = p .bytes ∙ ap (λ b. cond b (put out at bs) out) e;
       }
 
+  -- there is room for them
+  pub room-put : at + most ≤ length out → PutIf (leb (at + most) (length out)) most bs out at r out' → PutWithin most bs out at r out'
+  room-put h p = fits-put (leb (at + most) (length out)) (le-leb (at + most) (length out) h) p
+
 -- they do not fit, and nothing is put
 pub put-nothing : (most : ℕ) (bs out : Bytes) (at : ℕ) (f : Bool) → f ≡ false → PutIf f most bs out at at out
 put-nothing most bs out at f e =
@@ -46,3 +52,12 @@ put-nothing most bs out at f e =
       within = omega arith;
       bytes = sym (ap (λ b. cond b (put out at bs) out) e);
     }
+
+-- no bytes, whether they fit or not
+pub put-nil-if : (most : ℕ) (bs out : Bytes) (at : ℕ) (f : Bool) → bs ≡ [] → PutIf f most bs out at at out
+put-nil-if most bs out at true e = put-fits true refl (put-as e (put-nil most out at))
+put-nil-if most bs out at false e = put-nothing most bs out at false refl
+
+-- by another name
+pub put-as-if : {f : Bool} {m : ℕ} {a b out : Bytes} {at r : ℕ} {out' : Bytes} → a ≡ b → PutIf f m b out at r out' → PutIf f m a out at r out'
+put-as-if {f} {m} {a} {b} {out} {at} {r} {out'} e p = subst (λ (bs : Bytes). PutIf f m bs out at r out') (sym e) p

@@ -2,21 +2,13 @@
 use mathlib.Core.Bool.{true}
 use mathlib.Core.Path.{_≡_, ap, _∙_}
 use Prim.Native.Nat.{ℕ, _+_, _-_, _≤_}
-use borrow.Author.Tests.{leb-true, le-leb}
-use lib.Dec.{leb}
+use borrow.Author.Tests.{le-leb}
 use lib.ListN.{length, take, replicate}
 use lib.Seq.{take-append-seam}
-use Rattle.lists.proofs.Tests.{and-left, and-right, and-intro, cond-true}
+use Rattle.lists.proofs.Tests.{and-intro, cond-true}
 use Rattle.lines.specs.Bytes.{Bytes}
 use Rattle.printing.specs.declared.Line.{Line}
 use Rattle.printing.specs.Lines.{put, room, line-of, line-fits, with-line, end-after}
-
-pub fits-apart : (len at end : ℕ) → line-fits len at end ≡ true → (len ≤ room) × (at + len ≤ end)
-unfolding line-fits
-fits-apart len at end h =
-    let b = leb len room in
-    let e = leb (at + len) end in
-    (leb-true len room (and-left b e h), leb-true (at + len) end (and-right b e h))
 
 module _ (out : Bytes) (at : ℕ) (l : Line) (h : l .len ≤ room) (k : at + l .len ≤ length out) where
   fits : line-fits (l .len) at (length out) ≡ true

@@ -4,7 +4,9 @@ ghost use Prim.Native.Nat.{_+_, _≤_};
 ghost use lib.Dec.{leb};
 ghost use lib.ListN.{length, take};
 ghost use Rattle.lines.specs.Printing.{decimal, printed};
-ghost use Rattle.printing.specs.Lines.{line-numbers, line-digits, room, put, line-of, line-fits, with-line, end-after};
+ghost use Rattle.printing.specs.Lines.{line-numbers, line-digits, room, put, line-of, with-line, end-after};
+
+pub mod buffer;
 
 // A line to print: its bytes are the first `len`.
 pub struct Line {
@@ -49,15 +51,11 @@ pub fn put_line(out: &mut [u8], at: usize, l: Line) -> usize
     ensures { λ r. ⌜ (r ≡ end-after (now (out .entry)) at l) × (now (out .exit) ≡ with-line (now (out .entry)) at l) ⌝ }
 {
     let len = l.len;
-    if !has_room(len, at, out.len()) {
+    if Line::ROOM < len {
         return at;
     }
-    let mut i: usize = 0;
-    while i < len {
-        out[at + i] = l.bytes[i];
-        i += 1;
-    }
-    at + len
+    let bytes = l.bytes;
+    buffer::put_bytes(out, at, &bytes[..len])
 }
 
 // Whether so many bytes end at `end` or before where they start at `at`.
@@ -68,16 +66,6 @@ pub fn room_for(most: usize, at: usize, end: usize) -> bool
         return false;
     }
     most <= end - at
-}
-
-// Whether so many bytes are no more than a line holds, and end at `end` or before where they start at `at`.
-fn has_room(len: usize, at: usize, end: usize) -> bool
-    ensures { λ r. ⌜ r ≡ line-fits len at end ⌝ }
-{
-    if Line::ROOM < len {
-        return false;
-    }
-    room_for(len, at, end)
 }
 
 // Puts the digits of n at `at`, the last digit first; the new end.

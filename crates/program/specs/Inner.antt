@@ -1,3 +1,2 @@
-pub mod Printers
 pub mod Days
 pub mod Machines

@@ -9,8 +9,8 @@ use Rattle.lines.specs.Printers.{Program, whole-output}
 use Rattle.lines.specs.Machine.{partial-room, new-machine, after-bytes, printed-along}
 use Rattle.answers.specs.Printed.{answer-room}
 use Rattle.program.specs.declared.feed.State.{State}
-use Rattle.program.specs.declared.run.Ended.{Ended}
-use Rattle.program.specs.declared.run.Ended.the-variants.{Whole, ReadFailed, WriteFailed, TooLong}
+use Rattle.status.specs.declared.Ended.{Ended}
+use Rattle.status.specs.declared.Ended.the-variants.{Whole, ReadFailed, WriteFailed, TooLong}
 use Rattle.program.specs.declared.run.Outcome.{Outcome}
 use Rattle.program.specs.declared.run.Taken.{Taken}
 use Rattle.program.specs.Inner.Days.{GoodDay}

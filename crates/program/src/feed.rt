@@ -8,14 +8,13 @@ ghost use Rattle.printing.specs.Puts.{PutWithin};
 ghost use Rattle.answers.specs.Printed.{answer-room, tally-room};
 ghost use Rattle.program.specs.Inner.Days.{session-of, GoodDay, Given};
 ghost use Rattle.program.specs.Inner.Machines.{NewState, machine-of, TakenIn, GoesOn, PutAt};
-use crate::printers;
-use crate::printers::Printer;
-use crate::printers::Program;
 use crate::session;
 use crate::session::Day;
 use crate::session::DayAfter;
 use board::Board;
 use cutting::Partial;
+use printers::Printer;
+use printers::Program;
 
 // What a program holds between two bytes: the day, what its printer knows, and the bytes so far of the line that is being read.
 pub struct State {
@@ -43,7 +42,7 @@ pub(crate) fn new_state(program: Program) -> State
         board,
         tally,
     };
-    let page = sheet::new_page();
+    let page = page::new_page();
     let printer = Printer {
         program,
         number: 1,

@@ -1,26 +1,11 @@
 // The two programs as one call each, for a `main` in C: a program in Rattle has no exit status of its own.
-ghost use mathlib.Core.Path.{_≡_};
 ghost use Rattle.lines.specs.Printers.{board-program, sheet-program};
-ghost use Rattle.program.specs.Status.{status, Reported};
+ghost use Rattle.program.specs.Status.{Reported};
 use printers::Program;
-use run::Ended;
 
 pub mod feed;
-pub mod printers;
 pub mod run;
 pub mod session;
-
-// The exit status of a run that ended so.
-fn status_of(ended: Ended) -> u8
-    ensures { λ r. ⌜ r ≡ status ended ⌝ }
-{
-    match ended {
-        Ended::Whole => 0,
-        Ended::ReadFailed => 1,
-        Ended::WriteFailed => 1,
-        Ended::TooLong => 1,
-    }
-}
 
 // The board: reads a day on standard input and writes its answers on standard output; the exit status.
 #[no_mangle]
@@ -29,7 +14,7 @@ pub extern "C" fn oven_run() -> u8
 {
     let outcome = run::run(Program::Board);
     let ended = outcome.ended;
-    status_of(ended)
+    status::status_of(ended)
 }
 
 // The sheet: reads a day on standard input and writes its pages on standard output; the exit status.
@@ -39,5 +24,5 @@ pub extern "C" fn sheet_run() -> u8
 {
     let outcome = run::run(Program::Sheet);
     let ended = outcome.ended;
-    status_of(ended)
+    status::status_of(ended)
 }

@@ -3,25 +3,18 @@ ghost use mathlib.Core.Path.{_≡_};
 ghost use Prim.Native.Nat.{_+_, _≤_, _<_, _^_};
 ghost use lib.ListN.{length};
 ghost use Rattle.lines.specs.Machine.{partial-room};
+ghost use Rattle.printers.specs.Programs.{program-of};
 ghost use Rattle.program.specs.Inner.Days.{GoodDay};
-ghost use Rattle.program.specs.Inner.Printers.{program-of};
 ghost use Rattle.program.specs.Runs.{buffer-length, ChunkTaken, Stopped, Ran};
-ghost use Rattle.program.specs.declared.run.Ended.the-variants.{ReadFailed, WriteFailed, TooLong};
+ghost use Rattle.status.specs.declared.Ended.the-variants.{ReadFailed, WriteFailed, TooLong};
 use crate::feed;
 use crate::feed::State;
-use crate::printers::Program;
 use libc::STDERR_FILENO;
 use libc::STDIN_FILENO;
 use libc::STDOUT_FILENO;
+use printers::Program;
+use status::Ended;
 use streams::Got;
-
-// How a run ended: the end of input was read and all that is printed was written, a read failed, a write failed, or the input is too long.
-pub enum Ended {
-    Whole,
-    ReadFailed,
-    WriteFailed,
-    TooLong,
-}
 
 // What a run did: how it ended, how many bytes it read, and how many of those that it printed the system took.
 pub struct Outcome {

@@ -9,14 +9,13 @@ ghost use Rattle.lines.specs.Session.{step-refused, step-open, step-admit, step
 ghost use Rattle.fields.specs.Grades.{grade-of};
 ghost use Rattle.answers.specs.Printed.{answer-room};
 ghost use Rattle.program.specs.Inner.Days.{session-of, GoodDay, Did, DidAlone, Answered};
-use crate::printers;
-use crate::printers::Printer;
 use answers::Answer;
 use board::Board;
 use board::Laxity;
 use board::Tally;
 use fields::grades::Grade;
 use fields::grades::grade_meant;
+use printers::Printer;
 use reading::Asked;
 
 // The board, if one is open, and the tally.

@@ -1,6 +1,1 @@
-pub mod Known
-pub mod OnPage
-pub mod Handed
-pub mod ToRight
-pub mod Sums
 pub mod SlotLines

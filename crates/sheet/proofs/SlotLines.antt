@@ -7,10 +7,10 @@ use lib.ListN.{length, getD, drop, replicate, length-map, length-append, length-
 use lib.Seq.{drop-cons}
 use Rattle.lines.specs.Bytes.{Bytes}
 use Rattle.lines.specs.Sheet.{Figures, page-slots, slot-line, blank-line, heading, totals-line, page-lines, page}
-use Rattle.sheet.specs.declared.Page.{Page}
-use Rattle.sheet.specs.Pages.{figures-held, page-of}
+use Rattle.page.specs.declared.Page.{Page}
+use Rattle.page.specs.Pages.{figures-held, page-of}
 use Rattle.sheet.specs.Inner.Lines.{slot-lines}
-use Rattle.sheet.proofs.OnPage.{no-figures, closing-at}
+use Rattle.page.proofs.OnPage.{no-figures, closing-at}
 
 -- an element of a list mapped, whatever stands for elements past the ends
 getD-map-in : {A B : Type 0} (f : A → B) (l : List A) (i : ℕ) (d : A) (e : B) → i < length l → getD (map f l) i e ≡ f (getD l i d)

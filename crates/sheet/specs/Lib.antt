@@ -1,2 +1,2 @@
-pub mod Pages
+pub mod Room
 pub mod Inner

@@ -1,137 +1,28 @@
-// The sheet for the oven door: the page that is being filled, and its print.
+// The print of the sheet's page, at its place in a buffer that the caller lends.
 ghost use mathlib.Core.Path.{_≡_};
-ghost use Prim.Native.Nat.{_≤_};
 ghost use lib.ListN.{length};
-ghost use Rattle.lines.specs.Sheet.{line-columns, page-slots, most-given-up, page, sheet-number, is-full, page-after};
+ghost use Rattle.lines.specs.Sheet.{line-columns, page};
 ghost use Rattle.printing.specs.Puts.{PutIf};
-ghost use Rattle.sheet.specs.Pages.{figures-held, page-of, new-page, next-place, handed-over, page-length, page-fits};
-use board::Board;
-use board::Slot;
+ghost use Rattle.page.specs.Pages.{page-of};
+ghost use Rattle.sheet.specs.Room.{page-length, page-fits};
+use page::Page;
 
-mod columns;
 mod print;
-mod totals;
 
-// A closing handed to the sheet: its slot, the ticket and grade baked, 0 and 0 where the slot stays empty, and how many racks are given up.
-#[repr(C)]
-pub struct Figures {
-    pub slot: Slot,
-    pub ticket: u32,
-    pub grade: u32,
-    pub listed: u32,
-}
+// Columns of a line, the line end not counted.
+pub const COLUMNS: usize = 24;
 
-// A page: the closings on it are the first `count`.
-#[repr(C)]
-pub struct Page {
-    pub count: usize,
-    pub closings: [Figures; Page::SLOTS],
-}
+// The last column of each figure on the line of a slot. On the line of totals the number baked ends where a ticket does.
+pub const SLOT_ENDS: usize = 7;
 
-impl Page {
-    // Slots of a page.
-    pub const SLOTS: usize = 48;
+pub const TICKET_ENDS: usize = 18;
 
-    // Columns of a line, the line end not counted.
-    pub const COLUMNS: usize = 24;
+pub const GRADE_ENDS: usize = 20;
 
-    // The last column of each figure on the line of a slot. On the line of totals the number baked ends where a ticket does.
-    pub const SLOT_ENDS: usize = 7;
+pub const GIVEN_UP_ENDS: usize = COLUMNS;
 
-    pub const TICKET_ENDS: usize = 18;
-
-    pub const GRADE_ENDS: usize = 20;
-
-    pub const GIVEN_UP_ENDS: usize = Page::COLUMNS;
-
-    // Bytes of a page: a heading, the slots and the totals, each with its line end.
-    pub const LENGTH: usize = (1 + Page::SLOTS + 1) * (Page::COLUMNS + 1);
-
-    // The most racks given up in a slot.
-    pub const MOST_GIVEN_UP: u32 = 255;
-}
-
-// What the sheet answers to a closing: refusal 16 and the page as it was, or 0 and the page with the closing.
-#[repr(C)]
-pub struct HandedOver {
-    pub refusal: u8,
-    pub page: Page,
-}
-
-// A page without closings.
-pub fn new_page() -> Page
-    ensures { λ r. ⌜ r ≡ new-page ⌝ }
-{
-    let none = Figures {
-        slot: Slot(0),
-        ticket: 0,
-        grade: 0,
-        listed: 0,
-    };
-    Page {
-        count: 0,
-        closings: [none; Page::SLOTS],
-    }
-}
-
-// The number of a refusal, or 0: 16 for a slot past the book's last, a grade that no depth has, or more racks given up than a line may show.
-fn number_of(closing: Figures) -> u8
-    ensures { λ r. ⌜ r ≡ sheet-number (figures-held closing) ⌝ }
-{
-    if Board::LAST_SLOT < closing.slot.0 {
-        return 16;
-    }
-    if (1u32 << Board::DEEPEST) <= closing.grade {
-        return 16;
-    }
-    if Page::MOST_GIVEN_UP < closing.listed {
-        return 16;
-    }
-    0
-}
-
-// The place of the next closing on a page with so many: on a full page the first, since a new page begins.
-fn next_place(count: usize) -> usize
-    ensures { λ r. ⌜ r ≡ next-place count ⌝ }
-{
-    if Page::SLOTS <= count {
-        return 0;
-    }
-    count
-}
-
-// Hands a closing to the page. A full page takes no more: the closing begins the next one, and is alone on it.
-pub fn hand_over(page: Page, closing: Figures) -> HandedOver
-    ensures answer { λ r. ⌜ r ≡ handed-over page closing ⌝ }
-    ensures closings { λ r. ⌜ page-of (r .page) ≡ page-after (page-of page) (figures-held closing) ⌝ }
-{
-    let refusal = number_of(closing);
-    if refusal != 0 {
-        return HandedOver { refusal, page };
-    }
-    let at = next_place(page.count);
-    let mut after = page;
-    after.closings[at] = closing;
-    after.count = at + 1;
-    HandedOver {
-        refusal,
-        page: after,
-    }
-}
-
-// How many closings are on the page.
-fn closing_count(p: Page) -> usize
-    ensures { λ r. ⌜ (r ≡ length (page-of p)) × (r ≤ page-slots) ⌝ }
-{
-    lists::lesser(p.count, Page::SLOTS)
-}
-
-// Whether the page is full.
-pub fn is_full(page: Page) -> bool
-    ensures { λ r. ⌜ r ≡ is-full (page-of page) ⌝ }
-{
-    Page::SLOTS <= closing_count(page)
-}
+// Bytes of a page: a heading, the slots and the totals, each with its line end.
+pub const PAGE_LENGTH: usize = (1 + Page::SLOTS + 1) * (COLUMNS + 1);
 
 // Prints the page at `at`; where it ends. Where the buffer has no room for it nothing is printed, and that is `at`.
 pub fn print_page(p: Page, out: &mut [u8], at: usize) -> usize
@@ -139,7 +30,7 @@ pub fn print_page(p: Page, out: &mut [u8], at: usize) -> usize
         let fits = page-fits at (length (now (out .entry))) in
         ⌜ PutIf fits page-length (page (page-of p)) (now (out .entry)) at r (now (out .exit)) ⌝ }
 {
-    if !printing::room_for(Page::LENGTH, at, out.len()) {
+    if !printing::room_for(PAGE_LENGTH, at, out.len()) {
         return at;
     }
     print::put_page(p, out, at)
@@ -147,8 +38,6 @@ pub fn print_page(p: Page, out: &mut [u8], at: usize) -> usize
 
 // The constants are the numbers of the definitions.
 fn limits()
-    ensures { λ r. do ⌜ (← ⟦Page::SLOTS⟧ .entry) ≡ page-slots ⌝ }
-    ensures { λ r. do ⌜ (← ⟦Page::COLUMNS⟧ .entry) ≡ line-columns ⌝ }
-    ensures { λ r. do ⌜ (← ⟦Page::LENGTH⟧ .entry) ≡ page-length ⌝ }
-    ensures { λ r. do ⌜ (← ⟦Page::MOST_GIVEN_UP⟧ .entry) ≡ most-given-up ⌝ }
+    ensures { λ r. do ⌜ (← ⟦COLUMNS⟧ .entry) ≡ line-columns ⌝ }
+    ensures { λ r. do ⌜ (← ⟦PAGE_LENGTH⟧ .entry) ≡ page-length ⌝ }
 {}

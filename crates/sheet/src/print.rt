@@ -4,38 +4,38 @@ ghost use Prim.Native.Nat.{_+_, _*_, _≤_};
 ghost use lib.ListN.{length, getD};
 ghost use Rattle.lines.specs.Sheet.{page-slots, slot-line, blank-line, totals-line, page};
 ghost use Rattle.printing.specs.Puts.{PutWithin};
-ghost use Rattle.sheet.specs.Pages.{figures-held, page-of, page-length};
+ghost use Rattle.page.specs.Pages.{figures-held, page-of};
+ghost use Rattle.sheet.specs.Room.{page-length};
 ghost use Rattle.sheet.specs.Inner.Lines.{line-length, slot-lines};
-use crate::Figures;
-use crate::Page;
-use crate::columns;
-use crate::totals;
+use page::Figures;
+use page::Page;
+use printing::buffer;
 
 // Puts the line of a slot; where it ends.
 fn put_slot_line(f: Figures, out: &mut [u8], at: usize) -> usize
     requires { ⌜ at + line-length ≤ length (now out) ⌝ }
     ensures { λ r. ⌜ PutWithin line-length (slot-line (figures-held f)) (now (out .entry)) at r (now (out .exit)) ⌝ }
 {
-    let ticket_at = columns::put_right(out, at, Page::SLOT_ENDS, f.slot.0 as u64);
+    let ticket_at = columns::put_right(out, at, crate::SLOT_ENDS, f.slot.0 as u64);
     let grade_at = columns::put_right(
         out,
         ticket_at,
-        Page::TICKET_ENDS - Page::SLOT_ENDS,
+        crate::TICKET_ENDS - crate::SLOT_ENDS,
         f.ticket as u64,
     );
     let given_up_at = columns::put_right(
         out,
         grade_at,
-        Page::GRADE_ENDS - Page::TICKET_ENDS,
+        crate::GRADE_ENDS - crate::TICKET_ENDS,
         f.grade as u64,
     );
     let end = columns::put_right(
         out,
         given_up_at,
-        Page::GIVEN_UP_ENDS - Page::GRADE_ENDS,
+        crate::GIVEN_UP_ENDS - crate::GRADE_ENDS,
         f.listed as u64,
     );
-    columns::put_bytes(out, end, b"\n")
+    buffer::put_bytes(out, end, b"\n")
 }
 
 // Puts the line of the slot at this place of the page, a line of spaces where the page has none; where it ends.
@@ -43,9 +43,9 @@ fn put_place(p: Page, i: usize, out: &mut [u8], at: usize) -> usize
     requires { ⌜ at + line-length ≤ length (now out) ⌝ }
     ensures { λ r. ⌜ PutWithin line-length (getD (map slot-line (page-of p)) i blank-line) (now (out .entry)) at r (now (out .exit)) ⌝ }
 {
-    let count = crate::closing_count(p);
+    let count = page::closing_count(p);
     if count <= i {
-        return columns::put_bytes(out, at, b"                        \n");
+        return buffer::put_bytes(out, at, b"                        \n");
     }
     let f = p.closings[i];
     put_slot_line(f, out, at)
@@ -70,16 +70,15 @@ fn put_totals(p: Page, out: &mut [u8], at: usize) -> usize
     requires { ⌜ at + line-length ≤ length (now out) ⌝ }
     ensures { λ r. ⌜ PutWithin line-length (totals-line (page-of p)) (now (out .entry)) at r (now (out .exit)) ⌝ }
 {
-    let baked = totals::number_baked(p);
-    let given_up = totals::number_given_up(p);
-    let given_up_at = columns::put_right(out, at, Page::TICKET_ENDS, baked);
+    let totals = totals::totals_of(p);
+    let given_up_at = columns::put_right(out, at, crate::TICKET_ENDS, totals.baked);
     let end = columns::put_right(
         out,
         given_up_at,
-        Page::GIVEN_UP_ENDS - Page::TICKET_ENDS,
-        given_up,
+        crate::GIVEN_UP_ENDS - crate::TICKET_ENDS,
+        totals.listed,
     );
-    columns::put_bytes(out, end, b"\n")
+    buffer::put_bytes(out, end, b"\n")
 }
 
 // Puts the page: a heading, its slots and its totals; where it ends.
@@ -87,7 +86,7 @@ pub(crate) fn put_page(p: Page, out: &mut [u8], at: usize) -> usize
     requires { ⌜ at + page-length ≤ length (now out) ⌝ }
     ensures { λ r. ⌜ PutWithin page-length (page (page-of p)) (now (out .entry)) at r (now (out .exit)) ⌝ }
 {
-    let slots_at = columns::put_bytes(out, at, b"   SLOT     TICKET G OUT\n");
+    let slots_at = buffer::put_bytes(out, at, b"   SLOT     TICKET G OUT\n");
     let totals_at = put_places(p, out, slots_at);
     put_totals(p, out, totals_at)
 }

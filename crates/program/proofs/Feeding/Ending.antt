@@ -16,12 +16,12 @@ use Rattle.lines.proofs.Answers.{printed-none}
 use Rattle.printing.specs.Puts.{PutWithin}
 use Rattle.printing.proofs.Pieces.{put-behind, put-as}
 use Rattle.answers.specs.Printed.{answer-room}
-use Rattle.sheet.specs.Pages.{page-of}
+use Rattle.page.specs.Pages.{page-of}
+use Rattle.printers.specs.declared.Program.{Program}
+use Rattle.printers.specs.declared.Program.the-variants.{Board, Sheet}
+use Rattle.printers.specs.declared.Printer.{Printer as PrinterHeld}
+use Rattle.printers.specs.Programs.{printer-by, printer-of}
 use Rattle.program.specs.declared.session.DayAfter.{DayAfter}
-use Rattle.program.specs.declared.printers.Program.{Program}
-use Rattle.program.specs.declared.printers.Program.the-variants.{Board, Sheet}
-use Rattle.program.specs.declared.printers.Printer.{Printer as PrinterHeld}
-use Rattle.program.specs.Inner.Printers.{printer-by, printer-of}
 use Rattle.program.specs.Inner.Days.{session-of, Given}
 use Rattle.program.specs.Inner.Machines.{PutAt}
 

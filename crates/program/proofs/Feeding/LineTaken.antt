@@ -20,9 +20,9 @@ use Rattle.cutting.specs.Cut.{partial-bytes, part, extend-all, line-end-from, C
 use Rattle.cutting.proofs.Ends.{end-forward, end-inside, end-first, end-found}
 use Rattle.cutting.proofs.Parts.{part-last}
 use Rattle.answers.specs.Printed.{answer-room}
+use Rattle.printers.specs.Programs.{printer-of}
 use Rattle.program.specs.declared.session.DayAfter.{DayAfter}
 use Rattle.program.specs.declared.feed.State.{State}
-use Rattle.program.specs.Inner.Printers.{printer-of}
 use Rattle.program.specs.Inner.Days.{session-of, GoodDay, Answered}
 use Rattle.program.specs.Inner.Machines.{machine-of, TakenIn}
 use Rattle.program.proofs.Feeding.Along.{part-after, part-printed, line-after, line-printed}

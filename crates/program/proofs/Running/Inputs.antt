@@ -10,12 +10,12 @@ use Rattle.lines.specs.Printers.{Program}
 use Rattle.lines.specs.Machine.{partial-room, Machine, new-machine, after-bytes, printed-along}
 use Rattle.lines.proofs.Answers.{after-append, printed-nothing, printed-append}
 use Rattle.answers.specs.Printed.{answer-room}
+use Rattle.printers.specs.declared.Program.{Program as ProgramRun}
+use Rattle.printers.specs.Programs.{program-of}
 use Rattle.program.specs.declared.feed.State.{State}
-use Rattle.program.specs.declared.run.Ended.the-variants.{WriteFailed, TooLong}
+use Rattle.status.specs.declared.Ended.the-variants.{WriteFailed, TooLong}
 use Rattle.program.specs.declared.run.Outcome.{Outcome}
 use Rattle.program.specs.declared.run.Taken.{Taken}
-use Rattle.program.specs.declared.printers.Program.{Program as ProgramRun}
-use Rattle.program.specs.Inner.Printers.{program-of}
 use Rattle.program.specs.Inner.Days.{GoodDay}
 use Rattle.program.specs.Inner.Machines.{machine-of, NewState}
 use Rattle.program.specs.Runs.{most-read, ChunkTaken, EndsSo, Ran, Stopped}

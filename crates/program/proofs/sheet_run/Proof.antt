@@ -1,6 +1,6 @@
 -- `sheet_run`: the status of the run.
 use borrow.Author.Needs.{needs}
-use Rattle.program.specs.Inner.Printers.{program-of}
+use Rattle.printers.specs.Programs.{program-of}
 use Rattle.program.proofs.sheet_run.Statement.{statement}
 use Rattle.program.proofs.sheet_run.Tie as tie
 

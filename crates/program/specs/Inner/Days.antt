@@ -12,11 +12,11 @@ use Rattle.lines.specs.Session.{Session, Step, step, session-after}
 use Rattle.lines.specs.Printers.{Printer, answers-printed, printer-after}
 use Rattle.printing.specs.Lines.{put}
 use Rattle.answers.specs.Printed.{answer-of, answer-room}
+use Rattle.printers.specs.declared.Printer.{Printer as PrinterHeld}
+use Rattle.printers.specs.Programs.{printer-of}
 use Rattle.program.specs.declared.session.Day.{Day}
 use Rattle.program.specs.declared.session.Stepped.{Stepped}
 use Rattle.program.specs.declared.session.DayAfter.{DayAfter}
-use Rattle.program.specs.declared.printers.Printer.{Printer as PrinterHeld}
-use Rattle.program.specs.Inner.Printers.{printer-of}
 
 unfoldable pub session-of : Day → Session
 session-of d = record { board = cond (d .opened) (some (d .board)) none; tally = d .tally }

@@ -7,10 +7,10 @@ use Rattle.lines.specs.Machine.{Machine, new-machine, partial-room, after-bytes
 use Rattle.printing.specs.Lines.{put}
 use Rattle.cutting.specs.Cut.{partial-bytes, part}
 use Rattle.answers.specs.Printed.{answer-room}
+use Rattle.printers.specs.declared.Program.{Program as ProgramRun}
+use Rattle.printers.specs.Programs.{program-of, printer-of}
 use Rattle.program.specs.declared.feed.State.{State}
 use Rattle.program.specs.declared.feed.Fed.{Fed}
-use Rattle.program.specs.declared.printers.Program.{Program as ProgramRun}
-use Rattle.program.specs.Inner.Printers.{program-of, printer-of}
 use Rattle.program.specs.Inner.Days.{session-of, GoodDay}
 
 unfoldable pub machine-of : State → Machine

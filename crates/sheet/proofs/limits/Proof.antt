@@ -1,13 +1,13 @@
 -- `sheet::limits`: each constant of the source is the definition's number. Assumes nothing.
 use mathlib.Core.Path.{refl}
-use Rattle.lines.specs.Sheet.{line-columns, page-slots, most-given-up}
-use Rattle.sheet.specs.Pages.{page-length}
+use Rattle.lines.specs.Sheet.{line-columns, page-slots}
+use Rattle.sheet.specs.Room.{page-length}
 use Rattle.sheet.proofs.limits.Statement.{statement}
 use Rattle.sheet.proofs.limits.Tie as tie
 
 returns : tie.Need-returns
-unfolding page-slots line-columns page-length most-given-up
-returns c = (refl, (refl, (refl, refl)))
+unfolding page-slots line-columns page-length
+returns c = (refl, refl)
 
 pub limits-spec : {M : Type 1} → statement M
 limits-spec = tie.close (tie.spec returns)

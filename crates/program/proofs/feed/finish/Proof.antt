@@ -1,9 +1,11 @@
 -- `finish`: the last line's answer, and behind it the tally of an open board or the sheet's last page.
 use native.Mathlib.Omega.{arith}
 use borrow.Author.Needs.{needs}
+use Rattle.printing.proofs.Fitting.{fits-put}
 use Rattle.printing.proofs.Pieces.{put-as}
 use Rattle.answers.specs.Printed.{answer-room, tally-room}
-use Rattle.sheet.specs.Pages.{page-length}
+use Rattle.sheet.specs.Room.{page-length}
+use Rattle.printers.proofs.PageRoom.{page-fitting}
 use Rattle.program.specs.Inner.Days.{session-of}
 use Rattle.program.specs.Inner.Machines.{machine-of}
 use Rattle.program.proofs.Feeding.Ending.{board-end, sheet-end, ended}
@@ -30,11 +32,7 @@ enum-told-2 : tie.Need-enum-told-2
 enum-told-2 c = search needs
 
 print-last-requires : tie.Need-print-last-requires
-unfolding answer-room page-length
-print-last-requires c κs =
-    let l = c .before .before .before .before .before .before .before .before in
-    let s = l .before .before .before in
-    omega (arith, l .last-line .ensures .within, l .last-line .kept .1 .0, s .pre .1 .2)
+print-last-requires c κs = search needs
 
 same-length : tie.Need-same-length
 same-length c = search needs
@@ -60,7 +58,8 @@ returns-2 c =
     let r = l .last-line .result in
     let s = l .before .before .before in
     ended (machine-of (s .args .state)) (s .pre .1 .2) (omega arith) (l .last-line .ensures)
-    (put-as (sheet-end (r .printer) (session-of (r .day)) (p .before .before .enum-told2 .given .1)) (p .print-last .ensures))
+    (put-as (sheet-end (r .printer) (session-of (r .day)) (p .before .before .enum-told2 .given .1))
+    (fits-put _ (page-fitting (r .at) _ (omega (arith, l .last-line .ensures .within, l .last-line .kept .1 .0, s .pre .1 .2))) (p .print-last .ensures)))
 
 pub finish-spec : {M : Type 1} → statement M
 finish-spec =

@@ -10,10 +10,10 @@ use Rattle.lines.specs.Session.{new-session}
 use Rattle.lines.specs.Printers.{Printer, new-printer}
 use Rattle.lines.specs.Machine.{new-machine}
 use Rattle.cutting.specs.Cut.{partial-bytes}
-use Rattle.sheet.specs.Pages.{page-of, new-page}
-use Rattle.program.specs.declared.printers.Program.{Program}
-use Rattle.program.specs.declared.printers.Program.the-variants.{Board, Sheet}
-use Rattle.program.specs.Inner.Printers.{program-of, printer-by, printer-of}
+use Rattle.page.specs.Pages.{page-of, new-page}
+use Rattle.printers.specs.declared.Program.{Program}
+use Rattle.printers.specs.declared.Program.the-variants.{Board, Sheet}
+use Rattle.printers.specs.Programs.{program-of, printer-by, printer-of}
 use Rattle.program.specs.Inner.Days.{session-of, GoodDay}
 use Rattle.program.specs.Inner.Machines.{machine-of}
 use Rattle.program.proofs.Feeding.Along.{reading}

@@ -9,8 +9,8 @@ use lib.ListN.{length, take}
 use lib.Seq.{length-take-le}
 use Rattle.streams.specs.Got.{Within}
 use Rattle.answers.specs.Printed.{answer-room}
+use Rattle.printers.specs.Programs.{program-of}
 use Rattle.program.specs.Runs.{buffer-length, most-read}
-use Rattle.program.specs.Inner.Printers.{program-of}
 use Rattle.program.proofs.Running.Inputs.{SoFar, nothing-read, stopped, too-long, chunk-more, chunk-part}
 use Rattle.program.proofs.run.run.Statement.{statement}
 use Rattle.program.proofs.run.run.Tie as tie

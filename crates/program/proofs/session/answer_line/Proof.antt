@@ -12,7 +12,8 @@ use Rattle.lines.specs.Session.{Answer}
 use Rattle.lines.specs.Printers.{answers-printed, printer-after}
 use Rattle.printing.specs.Lines.{put}
 use Rattle.answers.specs.Inner.Fits.{Fits}
-use Rattle.program.specs.Inner.Printers.{printer-of}
+use Rattle.printers.specs.Programs.{printer-of}
+use Rattle.printers.proofs.WhereFits.{printed-by}
 use Rattle.program.proofs.session.answer_line.Statement.{statement}
 use Rattle.program.proofs.session.answer_line.Tie as tie
 
@@ -64,7 +65,7 @@ fitting t =
     (omega (arith, n, t .step-line .ensures .few), length-take-le listed (t .step-line .last .1 .1 .1 .0) (in-grades t) ∙ sym n, start t .pre .1 .0)
 
 print-by-requires : tie.Need-print-by-requires
-print-by-requires c κs = let t = c .before .before .before .before .before .before in (fitting t, start t .pre .1 .1)
+print-by-requires c κs = search needs
 
 same-length : tie.Need-same-length
 same-length c = search needs
@@ -75,7 +76,7 @@ returns c =
     let t = p .before .before .before .before .before .before .before in
     let a = start t .args in
     let d = t .step-line .ensures in
-    let r = p .print-by .ensures in
+    let r = printed-by (fitting t) (start t .pre .1 .1) (p .print-by .ensures) in
     let e = ap (λ (x : Answer). answers-printed (printer-of (a .printer)) (x ∷ [])) (d .answer) in
     record {
       given = record {

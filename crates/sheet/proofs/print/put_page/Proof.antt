@@ -3,8 +3,10 @@ use native.Mathlib.Omega.{arith}
 use borrow.Author.Needs.{needs}
 use Rattle.lines.specs.Bytes.{letter-G, line-end}
 use Rattle.lines.specs.Sheet.{line-columns, page-slots, space, to-right, _ending-in_, line-behind, line-with, heading}
+use Rattle.printing.proofs.Fitting.{room-put}
 use Rattle.printing.proofs.Pieces.{put-behind, put-as}
-use Rattle.sheet.specs.Pages.{page-of, page-length}
+use Rattle.page.specs.Pages.{page-of}
+use Rattle.sheet.specs.Room.{page-length}
 use Rattle.sheet.specs.Inner.Lines.{line-length}
 use Rattle.sheet.proofs.SlotLines.{page-parts}
 use Rattle.sheet.proofs.print.put_page.Statement.{statement}
@@ -14,7 +16,6 @@ slice-aggregate-put-bytes : tie.Need-slice-aggregate-put-bytes
 slice-aggregate-put-bytes c = search needs
 
 put-bytes-requires : tie.Need-put-bytes-requires
-unfolding page-length page-slots line-columns
 put-bytes-requires c κs = search needs
 
 put-places-requires : tie.Need-put-places-requires
@@ -36,7 +37,7 @@ returns c =
     let h = l .before .before .before .before in
     let s = h .before .before .before .before in
     let lines = put-behind (omega arith) (l .put-places .ensures) (t .put-totals .ensures) in
-    put-as (page-parts (page-of (s .args .p))) (put-behind (omega arith) (h .put-bytes .ensures) lines)
+    put-as (page-parts (page-of (s .args .p))) (put-behind (omega arith) (room-put (omega arith) (h .put-bytes .ensures)) lines)
 
 pub put-page-spec : {M : Type 1} → statement M
 put-page-spec =

@@ -3,6 +3,7 @@ use native.Mathlib.Omega.{arith}
 use borrow.Author.Needs.{needs}
 use Rattle.lines.specs.Bytes.{line-end}
 use Rattle.lines.specs.Sheet.{line-columns, space, line-behind, line-with, blank-line, page-slots}
+use Rattle.printing.proofs.Fitting.{room-put}
 use Rattle.printing.proofs.Pieces.{put-as}
 use Rattle.sheet.specs.Inner.Lines.{line-length}
 use Rattle.sheet.proofs.SlotLines.{closing-line, no-closing-line}
@@ -16,7 +17,6 @@ slice-aggregate-put-bytes : tie.Need-slice-aggregate-put-bytes
 slice-aggregate-put-bytes c = search needs
 
 put-bytes-requires : tie.Need-put-bytes-requires
-unfolding line-length line-columns
 put-bytes-requires c κs = search needs
 
 same-length : tie.Need-same-length
@@ -29,7 +29,7 @@ returns c =
     let t = e .before .before .before in
     let n = t .before in
     let a = n .before .before .args in
-    put-as (no-closing-line (a .t1) (a .i) (omega arith)) (e .put-bytes .ensures)
+    put-as (no-closing-line (a .t1) (a .i) (omega arith)) (room-put (omega arith) (e .put-bytes .ensures))
 
 mul-f : tie.Need-mul-f
 unfolding page-slots

@@ -8,10 +8,10 @@ use borrow.Author.Needs.{needs}
 use lib.ListN.{length, getD, drop}
 use Rattle.lines.specs.Sheet.{line-columns, page-slots, slot-line, blank-line}
 use Rattle.printing.proofs.Pieces.{Left, all-left, fewer-left, none-left}
-use Rattle.sheet.specs.Pages.{page-of}
+use Rattle.page.specs.Pages.{page-of}
 use Rattle.sheet.specs.Inner.Lines.{line-length, slot-lines}
-use Rattle.sheet.proofs.Known.{all-closings}
-use Rattle.sheet.proofs.OnPage.{closings-counted}
+use Rattle.page.proofs.Known.{all-closings}
+use Rattle.page.proofs.OnPage.{closings-counted}
 use Rattle.sheet.proofs.SlotLines.{next-line, no-line}
 use Rattle.sheet.proofs.print.put_places.Statement.{statement}
 use Rattle.sheet.proofs.print.put_places.Tie as tie

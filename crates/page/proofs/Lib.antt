@@ -1,0 +1,3 @@
+pub mod Known
+pub mod OnPage
+pub mod Handed
