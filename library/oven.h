@@ -167,14 +167,14 @@ oven_admitted oven_admit(oven_board board, uint32_t ticket, oven_wait wait, uint
  * The racks given up are written from the start of the list that the caller lends, each once, in any order; the entries after them
  * keep what they had. Refuses with 2, 3 or 8; board and list are then as they were. `list` points to `length` entries.
  */
-#define OVEN_STACK_CLOSE_INTO 69632
+#define OVEN_STACK_CLOSE_INTO 49152
 oven_closed oven_close_into(oven_board board, oven_entry *list, size_t length);
 
 /*
  * The same with the list in three parts: tickets, grades, and the slots of admitting. A rack given up has the same place in each.
  * The list has as many entries as its shortest part. The parts do not overlap.
  */
-#define OVEN_STACK_CLOSE 65536
+#define OVEN_STACK_CLOSE 40960
 oven_closed oven_close(oven_board board, uint32_t *tickets, size_t tickets_length, uint8_t *grades, size_t grades_length,
                        oven_slot *slots, size_t slots_length);
 

@@ -1,124 +1,108 @@
--- The search for the tight laxity, job by job: the smallest excess so far, and the least laxity that has it.
-use mathlib.Core.Path.{_≡_, refl, sym, ap, ap₂, _∙_, subst}
-use mathlib.Core.Bool.{Bool, true, false, not, _||_, cond}
-use mathlib.Core.Logic.{_⊎_, inl, inr, ⊎-elim}
-use mathlib.Core.List.{List, [], _∷_, _++_, List·Memᴰ, List·Memᴰ·head, List·Memᴰ·not-nil, Memᴰ·append-left, Memᴰ·append-right}
+-- The best laxity from counts: c k jobs have the laxity k + 1, laxity by laxity from the least.
+use mathlib.Core.Path.{_≡_, refl, sym, ap, _∙_}
+use mathlib.Core.Bool.{Bool, true, false, _||_, cond}
+use mathlib.Core.Logic.{⊎-elim}
 use Prim.Native.Nat.{ℕ, _+_, _≤_, _<_}
 use native.Mathlib.Omega.{arith}
-use lib.Dec.{leb, ltb}
+use lib.Dec.{ltb, eqb}
 use lib.IntN.{ℤ, pos, _-ℤ_}
-use lib.Signed.{leZ}
-use borrow.Author.Tests.{leb-true, leb-false, le-leb, lt-leb, ltb-true, ltb-false, not-true, not-false}
-use Rattle.lists.specs.Select.{select}
-use Rattle.lists.specs.Least.{least}
-use Rattle.lists.proofs.Tests.{test, and-left, and-right, and-false, or-cases, or-false}
-use Rattle.lists.proofs.Counting.{count-mem}
-use Rattle.lists.proofs.Members.{each-more}
-use Rattle.rule.specs.Job.{Job, laxity}
-use Rattle.rule.specs.Tight.{laxities, excess, tight-laxity}
-use Rattle.rule.proofs.Tight.Excess.{up-to, difference-up, difference-order, excess-order}
-use Rattle.rule.proofs.Tight.Laxity.{tight-laxity-is, tight-laxity-only}
-use Rattle.board.specs.Limits.{longest-laxity}
-use Rattle.board.specs.declared.Laxity.{Laxity}
+use lib.Signed.{ltZ}
+use borrow.Author.Tests.{ltb-true, ltb-false, eqb-true, eqb-false, eq-eqb, ne-eqb}
+use Rattle.lists.proofs.Tests.{cmp}
 use Rattle.search.specs.declared.tight.Best.{Best}
-use Rattle.search.specs.Inner.Inside.{comes-before}
+use Rattle.search.specs.Inner.Counts.{sum}
+use Rattle.search.specs.Inner.Answers.{best-with}
+use Rattle.search.proofs.Signed.{difference-less}
+use Rattle.search.proofs.Sums.{sum-more, sum-part}
 
--- a new laxity and the best so far, compared by sums
-yes-chosen : (a c l m : ℕ) → comes-before (leb a c) (leb c a) l m ≡ true → (a < c) ⊎ ((a ≤ c) × (l < m))
-yes-chosen a c l m h =
-    let k = leb-true a c (and-left (leb a c) (not (leb c a) || ltb l m) h) in
-    ⊎-elim (λ n. inl (leb-false c a (not-true (leb c a) n))) (λ n. inr (k, ltb-true l m n))
-    (or-cases (not (leb c a)) (ltb l m) (and-right (leb a c) (not (leb c a) || ltb l m) h))
+-- the laxity k + 1 and its excess, with w jobs within it
+abbrev best-at : (k w : ℕ) → Best
+best-at k w = record { excess = pos (k + 1) -ℤ pos w; laxity = record { 0 = k + 1 } }
 
-not-chosen : (a c l m : ℕ) → comes-before (leb a c) (leb c a) l m ≡ false → (c < a) ⊎ ((c ≤ a) × (m ≤ l))
-not-chosen a c l m h =
-    ⊎-elim (λ n. inl (leb-false a c n))
-    (λ n. let o = or-false (not (leb c a)) (ltb l m) n in inr (leb-true c a (not-false (leb c a) (o .0)), ltb-false l m (o .1)))
-    (and-false (leb a c) (not (leb c a) || ltb l m) h)
+-- the code's step: nobody has the laxity, or its excess is better, or not
+module _ (best : Best) (before here k : ℕ) where
+  pub with-none : here ≡ 0 → best ≡ best-with best before here k
+  unfolding best-with
+  with-none z = rw (eq-eqb here 0 z) refl
 
--- the excess of k is at most that of q's laxity, and smaller where q's laxity is less than k
-abbrev AtMost : ℕ → List Job → ℕ → Job → Type 0
-AtMost now A k q = k + up-to now A (laxity now q) ≤ laxity now q + up-to now A k
+  module _ (some : ¬ (here ≡ 0)) {x : ℤ} (e : x ≡ pos (k + 1) -ℤ pos (before + here)) where
+    pub with-new : (eqb before 0 || ltZ x (best .excess)) ≡ true → record { excess = x; laxity = record { 0 = k + 1 } } ≡ best-with best before here k
+    unfolding best-with
+    with-new t = rw (ne-eqb here 0 some, ← e, t) refl
 
-abbrev First : ℕ → List Job → ℕ → Job → Type 0
-First now A k q = laxity now q < k → k + up-to now A (laxity now q) < laxity now q + up-to now A k
+    pub with-old : (eqb before 0 || ltZ x (best .excess)) ≡ false → best ≡ best-with best before here k
+    unfolding best-with
+    with-old t = rw (ne-eqb here 0 some, ← e, t) refl
 
--- the best laxity of those of L, jobs of A
-pub data BestOf (now : ℕ) (A L : List Job) (best : Best) : Type 0 where
-  none-yet : L ≡ [] → best .excess ≡ pos longest-laxity → best .laxity .0 ≡ 0 → BestOf now A L best
-  best-yet : (r : Job) → List·Memᴰ r L → laxity now r ≡ best .laxity .0 → best .excess ≡ excess now A (best .laxity .0)
-      → ((q : Job) → List·Memᴰ q L → AtMost now A (best .laxity .0) q) → ((q : Job) → List·Memᴰ q L → First now A (best .laxity .0) q) → BestOf now A L best
+module _ (c : ℕ → ℕ) where
+  -- the excess of k + 1 is at most that of j + 1; is smaller
+  abbrev AtMost : (k j : ℕ) → Type 0
+  AtMost k j = k + sum c (j + 1) ≤ j + sum c (k + 1)
 
--- once all jobs are looked at it is the tight laxity
-pub best-all : {now : ℕ} {A : List Job} {best : Best} → BestOf now A A best → best .laxity .0 ≡ tight-laxity now A
-unfolding tight-laxity laxities select least
-best-all (none-yet e x l) = rw e l
-best-all {now} {A} (best-yet r m l x o f) = tight-laxity-only (record { present = (r, m, l); least = o; first = f }) (tight-laxity-is now A m)
+  abbrev Below : (k j : ℕ) → Type 0
+  Below k j = k + sum c (j + 1) < j + sum c (k + 1)
 
--- one job more is looked at
-module _ (now : ℕ) (A : List Job) (r : Job) (m : List·Memᴰ r A) (l : Laxity) (is : laxity now r ≡ l .0) (x : ℤ) (of : x ≡ excess now A (l .0)) where
-  -- a job counts itself, so its excess is below the longest laxity
-  small : (most : ℕ) → l .0 ≤ most → (leZ x (pos most) ≡ true) × (leZ (pos most) x ≡ false)
-  unfolding excess
-  small most h =
-      let k = up-to now A (l .0) in
-      let one : 1 ≤ k = count-mem (λ q. leb (laxity now q) (l .0)) m (le-leb (laxity now r) (l .0) (omega arith)) in
-      let below : leZ (pos (l .0) -ℤ pos k) (pos most -ℤ pos 0) ≡ true = difference-order (l .0) k most 0 ∙ le-leb (l .0 + 0) (most + k) (omega arith) in
-      let above : leZ (pos most -ℤ pos 0) (pos (l .0) -ℤ pos k) ≡ false = difference-order most 0 (l .0) k ∙ lt-leb (most + k) (l .0 + 0) (omega arith) in
-      let whole : pos most ≡ pos most -ℤ pos 0 = ap pos (omega arith) ∙ sym (difference-up most 0 (omega arith)) in
-      (ap₂ leZ of whole ∙ below, ap₂ leZ whole of ∙ above)
+  -- the best of the laxities 1 to n
+  pub data BestTo (n : ℕ) (best : Best) : Type 0 where
+    none-yet : sum c n ≡ 0 → best ≡ record { excess = pos 0; laxity = record { 0 = 0 } } → BestTo n best
+    best-yet : (k : ℕ) → k < n → 1 ≤ c k → best ≡ best-at k (sum c (k + 1)) → ((j : ℕ) → j < n → 1 ≤ c j → AtMost k j) → ((j : ℕ) → j < k → 1 ≤ c j → Below k j) → BestTo n best
 
-  -- its laxity is the new best
-  new-best : (L : List Job) → ((q : Job) → List·Memᴰ q L → AtMost now A (l .0) q) → ((q : Job) → List·Memᴰ q L → First now A (l .0) q)
-      → BestOf now A (L ++ (r ∷ [])) (record { excess = x; laxity = l })
-  new-best L o f =
-      let same = ap (up-to now A) is in
-      best-yet r (Memᴰ·append-right L (List·Memᴰ·head refl)) is of (each-more (AtMost now A (l .0)) L o (omega arith))
-      (each-more (First now A (l .0)) L f (λ k. absurd (omega arith)))
+  -- one laxity more: nobody has it
+  best-same : (n : ℕ) {best : Best} → c n ≡ 0 → BestTo n best → BestTo (n + 1) best
+  best-same n e (none-yet s b) = none-yet (omega (arith, sum-more c n)) b
+  best-same n e (best-yet k h p b o f) =
+      best-yet k (omega arith) p b
+      (λ j i q. ⊎-elim (λ (m : n ≤ j). let s : j ≡ n = omega arith in absurd (omega (arith, ap c s))) (λ m. o j m q) (cmp n j))
+      f
 
-  -- the old best, that of q, or the new one
-  module _ (L : List Job) (best : Best) (q : Job) (i : List·Memᴰ q L) (n : laxity now q ≡ best .laxity .0) (y : best .excess ≡ excess now A (best .laxity .0))
-      (o : (p : Job) → List·Memᴰ p L → AtMost now A (best .laxity .0) p) (f : (p : Job) → List·Memᴰ p L → First now A (best .laxity .0) p) where
-    -- the two excesses compared, as sums
-    new-sum : ℕ
-    new-sum = l .0 + up-to now A (best .laxity .0)
+  -- it is the new best
+  best-new : (n : ℕ) → 1 ≤ c n → ((j : ℕ) → j < n → 1 ≤ c j → Below n j) → BestTo (n + 1) (best-at n (sum c n + c n))
+  best-new n p f =
+      best-yet n (omega arith) p (ap (best-at n) (sym (sum-more c n)))
+      (λ j i q. ⊎-elim (λ (m : n ≤ j). let s : j ≡ n = omega arith in rw s (omega arith)) (λ m. omega (arith, f j m q)) (cmp n j))
+      f
 
-    old-sum : ℕ
-    old-sum = best .laxity .0 + up-to now A (l .0)
+  -- the two excesses compared, as sums
+  compared : (n k : ℕ) {best : Best} → best ≡ best-at k (sum c (k + 1))
+      → ltZ (pos (n + 1) -ℤ pos (sum c n + c n)) (best .excess) ≡ ltb (n + 1 + sum c (k + 1)) (k + 1 + (sum c n + c n))
+  compared n k e =
+      ap (λ (b : Best). ltZ (pos (n + 1) -ℤ pos (sum c n + c n)) (b .excess)) e ∙ difference-less (n + 1) (sum c n + c n) (k + 1) (sum c (k + 1))
 
-    newer : (new-sum < old-sum) ⊎ ((new-sum ≤ old-sum) × (l .0 < best .laxity .0)) → BestOf now A (L ++ (r ∷ [])) (record { excess = x; laxity = l })
-    unfolding new-sum old-sum
-    newer (inl c) = new-best L (λ p j. omega (arith, o p j)) (λ p j b. omega (arith, o p j))
-    newer (inr c) = new-best L (λ p j. omega (arith, o p j)) (λ p j b. omega (arith, f p j (omega arith)))
+  -- somebody has it: its excess is smaller, or the best so far stays
+  best-either : (n k : ℕ) {best : Best} → 1 ≤ c n → k < n → 1 ≤ c k → best ≡ best-at k (sum c (k + 1)) → ((j : ℕ) → j < n → 1 ≤ c j → AtMost k j)
+      → ((j : ℕ) → j < k → 1 ≤ c j → Below k j) → (t : Bool) → ltb (n + 1 + sum c (k + 1)) (k + 1 + (sum c n + c n)) ≡ t
+      → BestTo (n + 1) (cond t (best-at n (sum c n + c n)) best)
+  best-either n k p h r b o f true e =
+      best-new n p (λ j i q. omega (arith, sum-more c n, o j i q, ltb-true (n + 1 + sum c (k + 1)) (k + 1 + (sum c n + c n)) e))
+  best-either n k p h r b o f false e =
+      best-yet k (omega arith) r b
+      (λ j i q.
+      ⊎-elim
+      (λ (m : n ≤ j). let s : j ≡ n = omega arith in rw s (omega (arith, sum-more c n, ltb-false (n + 1 + sum c (k + 1)) (k + 1 + (sum c n + c n)) e)))
+      (λ m. o j m q)
+      (cmp n j))
+      f
 
-    older : (old-sum < new-sum) ⊎ ((old-sum ≤ new-sum) × (best .laxity .0 ≤ l .0)) → BestOf now A (L ++ (r ∷ [])) best
-    unfolding new-sum old-sum
-    older c =
-        let same = ap (up-to now A) is in
-        best-yet q (Memᴰ·append-left (r ∷ []) i) n y
-        (each-more (AtMost now A (best .laxity .0)) L o (⊎-elim (λ k. omega arith) (λ k. omega arith) c))
-        (each-more (First now A (best .laxity .0)) L f (λ b. ⊎-elim (λ k. omega arith) (λ k. absurd (omega arith)) c))
+  best-some : (n : ℕ) {best : Best} → 1 ≤ c n → BestTo n best
+      → BestTo (n + 1) (cond (eqb (sum c n) 0 || ltZ (pos (n + 1) -ℤ pos (sum c n + c n)) (best .excess)) (best-at n (sum c n + c n)) best)
+  best-some n p (none-yet s b) = rw (eq-eqb (sum c n) 0 s) (best-new n p (λ j i q. absurd (omega (arith, sum-part c n j i))))
+  best-some n p (best-yet k h r b o f) =
+      rw (ne-eqb (sum c n) 0 (λ z. omega (arith, sum-part c n k h)), compared n k b)
+      (best-either n k p h r b o f (ltb (n + 1 + sum c (k + 1)) (k + 1 + (sum c n + c n))) refl)
 
-    either : BestOf now A (L ++ (r ∷ [])) (cond (comes-before (leZ x (best .excess)) (leZ (best .excess) x) (l .0) (best .laxity .0)) (record { excess = x; laxity = l }) best)
-    unfolding new-sum old-sum
-    either = go (test t)
-      where
-        t : Bool
-        t = comes-before (leZ x (best .excess)) (leZ (best .excess) x) (l .0) (best .laxity .0)
+  pub best-more : (n : ℕ) {best : Best} → BestTo n best → BestTo (n + 1) (best-with best (sum c n) (c n) n)
+  unfolding best-with
+  best-more n {best} B = go (eqb (c n) 0) refl
+    where
+      go : (t : Bool) → eqb (c n) 0 ≡ t
+          → BestTo (n + 1) (cond t best (cond (eqb (sum c n) 0 || ltZ (pos (n + 1) -ℤ pos (sum c n + c n)) (best .excess)) (best-at n (sum c n + c n)) best))
+      go true e = best-same n (eqb-true (c n) 0 e) B
+      go false e = let z : ¬ (c n ≡ 0) = eqb-false (c n) 0 e in best-some n (omega arith) B
 
-        sums : t ≡ comes-before (leb new-sum old-sum) (leb old-sum new-sum) (l .0) (best .laxity .0)
-        sums =
-            ap₂ (λ a c. comes-before a c (l .0) (best .laxity .0)) (ap₂ leZ of y ∙ excess-order now A (l .0) (best .laxity .0))
-            (ap₂ leZ y of ∙ excess-order now A (best .laxity .0) (l .0))
+  pub best-none : BestTo 0 (record { excess = pos 0; laxity = record { 0 = 0 } })
+  unfolding sum
+  best-none = none-yet refl refl
 
-        go : (t ≡ true) ⊎ (t ≡ false) → BestOf now A (L ++ (r ∷ [])) (cond t (record { excess = x; laxity = l }) best)
-        go (inl c) = rw c (newer (yes-chosen new-sum old-sum (l .0) (best .laxity .0) (sym sums ∙ c)))
-        go (inr c) = rw c (older (not-chosen new-sum old-sum (l .0) (best .laxity .0) (sym sums ∙ c)))
-
-  pub best-more : {L : List Job} {best : Best} → l .0 ≤ longest-laxity → BestOf now A L best
-      → BestOf now A (L ++ (r ∷ [])) (cond (comes-before (leZ x (best .excess)) (leZ (best .excess) x) (l .0) (best .laxity .0)) (record { excess = x; laxity = l }) best)
-  best-more {L} h (none-yet e y z) =
-      let t = small longest-laxity h in
-      let none : (q : Job) → List·Memᴰ q L → ⊥ = λ q j. List·Memᴰ·not-nil (subst (List·Memᴰ q) e j) in
-      simp (y, t .0, t .1) (new-best L (λ q j. absurd (none q j)) (λ q j. absurd (none q j)))
-  best-more {L} {best} h (best-yet q i n y o f) = either L best q i n y o f
+  pub best-small : {n : ℕ} {best : Best} → BestTo n best → best .laxity .0 ≤ n
+  best-small (none-yet s b) = rw b (omega arith)
+  best-small (best-yet k h p b o f) = rw b (omega arith)

@@ -1,9 +1,10 @@
-pub mod Seeing
 pub mod Start
-pub mod Walk
-pub mod OnlySeen
-pub mod Excess
+pub mod Seeing
+pub mod Sums
+pub mod Signed
 pub mod BestLaxity
+pub mod TightFound
 pub mod NextBit
+pub mod FromCounts
 pub mod Earlier
 pub mod OnSound

@@ -12,9 +12,9 @@ use Rattle.board.specs.Held.{slot-of, held}
 use Rattle.board.specs.Sound.{sound}
 use Rattle.board.specs.Close.{bakes}
 use Rattle.board.proofs.Soundness.Apart.{facts}
-use Rattle.thinning.specs.Kept.{seen-job}
-use Rattle.search.specs.Inner.Seen.{seen, bakes-seen}
-use Rattle.thinning.proofs.Seeing.{facts-seen}
+use Rattle.counts.specs.Seen.{seen-job, seen}
+use Rattle.search.specs.Inner.Seen.{bakes-seen}
+use Rattle.counts.proofs.JobSeen.{facts-seen}
 
 pub sees-all : (b : Board) → sound b ≡ true → seen b ≡ held b
 unfolding seen laxity

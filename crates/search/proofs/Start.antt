@@ -16,12 +16,17 @@ use Rattle.rule.specs.Job.{Job}
 use Rattle.rule.specs.Grade.{bits, graded}
 use Rattle.rule.proofs.Bits.Number.{number, length-bits, number-bits, bits-number, number-more}
 use Rattle.rule.proofs.Bits.Reading.{graded-reads}
-use Rattle.search.specs.Inner.Inside.{Start, first-bits}
+use Rattle.search.specs.Inner.Start.{Start, first-bits}
 
 -- twice the start, or one more, with one bit fewer left
 next-room : (d left start : ℕ) → Start d start left → 1 ≤ left → Start d (start * 2 + 1) (left - 1)
 next-room d zero start fits some = absurd (omega arith)
 next-room d (suc n) start fits some = rw sub-one (omega (arith, simp pow-succ' at fits))
+
+-- the grades that start with one bit more are among those that start so
+pub next-fits : (left start : ℕ) → 1 ≤ left → (start * 2 + 1 + 1) * 2 ^ (left - 1) ≡ (start + 1) * 2 ^ left
+next-fits zero start some = absurd (omega arith)
+next-fits (suc n) start some = rw (sub-one, pow-succ' 2 n) (omega arith)
 
 -- the grades that start so are below 2 ^ d
 module _ (d left start : ℕ) (fits : Start d start left) where

@@ -1,2 +1,4 @@
 pub mod Seen
-pub mod Inside
+pub mod Counts
+pub mod Start
+pub mod Answers

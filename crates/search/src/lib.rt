@@ -1,17 +1,17 @@
-// The search for the job that a slot bakes: down the bits to its grade, then the soonest job of the no-regret set. It takes any board, and goes by the
-// jobs that it sees there; on a sound board these are all.
-// A start of a grade is the number of its first bits, `start`, with `left` bits left: a grade starts so where grade >> left is start. All
-// grades that start so are below (start + 1) * 2 ^ left, which is at most 2 ^ depth.
+// The search for the job that a slot bakes: one walk along the board counts its jobs by laxity and grade; from these counts alone comes the grade, down
+// its bits, and the tight laxity of that grade's jobs; then the soonest job of this no-regret set. It takes any board, and goes by the jobs that it sees
+// there; on a sound board these are all.
+// A start of a grade is the number of its first bits, `start`, with `left` bits left: the grades that start so are the 2 ^ left from start * 2 ^ left
+// on. All of them are below (start + 1) * 2 ^ left, which is at most 2 ^ depth.
 ghost use mathlib.Core.Path.{_≡_};
 ghost use Rattle.rule.specs.Bake.{ticket-of, grade-of};
 ghost use Rattle.search.specs.Inner.Seen.{bakes-seen};
 use board::Board;
-use thinning::Kept;
 
+mod columns;
 mod descent;
 mod soonest;
 mod tight;
-mod within;
 
 // The job that a slot bakes: its ticket and grade, both 0 where no job is seen.
 pub struct Baked {
@@ -29,9 +29,8 @@ pub fn bake(b: Board) -> Baked
             grade: 0,
         };
     }
-    let now = b.slot;
-    let s = thinning::thinned(b, now, Kept::Seen);
-    let grade = descent::descend(s, 0, s.depth);
-    let l = tight::tight(s, grade, 0);
-    soonest::soonest(s, grade, 0, l)
+    let counts = counts::counts_of(b);
+    let grade = descent::descend(&counts, 0, b.depth);
+    let best = tight::tight(&counts, grade, 0);
+    soonest::soonest(b, grade, best.laxity)
 }

@@ -1,14 +1,13 @@
 // The soonest job: 'the least last slot, on ties the lowest ticket'.
 ghost use mathlib.Core.Path.{_≡_};
-ghost use mathlib.Core.Bool.{not, _||_, cond};
-ghost use lib.Dec.{leb, eqb};
+ghost use mathlib.Core.Bool.{not, _&&_, _||_, cond};
+ghost use lib.Dec.{eqb};
 ghost use Rattle.lists.specs.Select.{select};
-ghost use Rattle.rule.specs.Job.{Job, laxity};
 ghost use Rattle.rule.specs.Bake.{sooner as is-sooner, soonest as soonest-in, ticket-of, grade-of};
 ghost use Rattle.board.specs.Held.{slot-of, job-in};
-ghost use Rattle.search.specs.Inner.Inside.{AllSeen, Start, starting-so};
+ghost use Rattle.counts.specs.Seen.{seen-job, seen};
+ghost use Rattle.search.specs.Inner.Seen.{of-grade-within};
 use crate::Baked;
-use crate::within;
 use board::Board;
 use board::Laxity;
 use board::Place;
@@ -37,14 +36,27 @@ fn take_sooner(best: Place, p: Place) -> Place
     p
 }
 
-// The soonest of the jobs whose grade starts so and whose laxity is `l` or less.
-pub(crate) fn soonest(b: Board, start: u8, left: u8, l: Laxity) -> Baked
-    requires { ⌜ AllSeen b × Start (b .depth) start left ⌝ }
-    ensures { λ r. ⌜ r .ticket ≡ ticket-of (soonest-in (select (λ (q : Job). leb (laxity (slot-of b) q) (l .0)) (starting-so b start left))) ⌝ }
-    ensures { λ r. ⌜ r .grade ≡ grade-of (soonest-in (select (λ (q : Job). leb (laxity (slot-of b) q) (l .0)) (starting-so b start left))) ⌝ }
+// Whether a job is seen, has this grade, and laxity `l` or less.
+fn is_within(now: Slot, depth: u8, p: Place, grade: u8, l: Laxity) -> bool
+    ensures { λ r. ⌜ r ≡ (seen-job (now .0) depth (job-in p) && of-grade-within (now .0) grade (l .0) (job-in p)) ⌝ }
 {
-    let count = b.count;
+    if p.grade != grade {
+        return false;
+    }
+    if counts::is_seen(now, depth, p) {
+        return p.last.0 - now.0 < l.0;
+    }
+    false
+}
+
+// The soonest of the jobs seen that have this grade and laxity `l` or less.
+pub(crate) fn soonest(b: Board, grade: u8, l: Laxity) -> Baked
+    ensures { λ r. ⌜ r .ticket ≡ ticket-of (soonest-in (select (of-grade-within (slot-of b) grade (l .0)) (seen b))) ⌝ }
+    ensures { λ r. ⌜ r .grade ≡ grade-of (soonest-in (select (of-grade-within (slot-of b) grade (l .0)) (seen b))) ⌝ }
+{
+    let count = lists::lesser(b.count, Board::PLACES);
     let now = b.slot;
+    let depth = b.depth;
     let mut best = Place {
         ticket: 0,
         admitted: Slot(0),
@@ -54,7 +66,7 @@ pub(crate) fn soonest(b: Board, start: u8, left: u8, l: Laxity) -> Baked
     let mut i: usize = 0;
     while i < count {
         let p = b.places[i];
-        if within::is_within(now, p, start, left, l) {
+        if is_within(now, depth, p, grade, l) {
             best = take_sooner(best, p);
         }
         i += 1;

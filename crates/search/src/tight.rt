@@ -1,59 +1,61 @@
-// The tight laxity: of the laxities that a job has, the least whose excess is smallest.
+// The tight laxity from counts: of the laxities that a job has, the least whose excess is smallest, and that excess.
 ghost use mathlib.Core.Path.{_≡_};
-ghost use mathlib.Core.Bool.{cond};
-ghost use Prim.Native.Nat.{_≤_};
+ghost use mathlib.Core.Bool.{_||_};
+ghost use Prim.Native.Nat.{_+_, _^_, _≤_, _<_};
+ghost use lib.Dec.{eqb};
 ghost use lib.IntN.{pos, _-ℤ_};
-ghost use lib.Signed.{leZ};
-ghost use Rattle.rule.specs.Tight.{tight-laxity};
-ghost use Rattle.board.specs.Limits.{longest-laxity, places-held};
-ghost use Rattle.board.specs.Held.{slot-of};
-ghost use Rattle.search.specs.Inner.Inside.{AllSeen, Start, starting-so, comes-before};
-use crate::within;
-use board::Board;
+ghost use lib.Signed.{ltZ};
+ghost use Rattle.board.specs.Limits.{deepest, longest-laxity};
+ghost use Rattle.search.specs.Inner.Start.{Start};
+ghost use Rattle.search.specs.Inner.Answers.{TightOf, best-with};
+use crate::columns;
 use board::Laxity;
+use counts::CELLS;
+use counts::LAXITIES;
 
-// The smallest excess found so far, and the least laxity that has it.
-struct Best {
-    excess: i32,
-    laxity: Laxity,
+// The smallest excess found so far, and the least laxity that has it; both 0 where there are no jobs.
+pub(crate) struct Best {
+    pub excess: i32,
+    pub laxity: Laxity,
 }
 
 // The excess of a laxity: the laxity less the number of jobs with that laxity or less. It may be below zero.
 fn excess(l: Laxity, within: u32) -> i32
-    requires { ⌜ (l .0 ≤ longest-laxity) × (within ≤ places-held) ⌝ }
+    requires { ⌜ (l .0 < 2 ^ 31) × (within < 2 ^ 31) ⌝ }
     ensures { λ r. ⌜ r ≡ pos (l .0) -ℤ pos within ⌝ }
 {
     (l.0 as i32) - (within as i32)
 }
 
-// Whether an excess is at most another.
-fn at_most(x: i32, y: i32) -> bool
-    ensures { λ r. ⌜ r ≡ leZ x y ⌝ }
+// Whether an excess is smaller than another.
+fn is_smaller(x: i32, y: i32) -> bool
+    ensures { λ r. ⌜ r ≡ ltZ x y ⌝ }
 {
-    x <= y
+    x < y
 }
 
-// Whether the laxity `l`, with excess `x`, is better than the best so far: its excess is smaller, or the same and the laxity less.
-fn is_better(x: i32, l: Laxity, best: Best) -> bool
-    ensures { λ r. ⌜ r ≡ comes-before (leZ x (best .excess)) (leZ (best .excess) x) (l .0) (best .laxity .0) ⌝ }
+// Whether the excess `x` is the first, or smaller than the best so far.
+fn is_better(x: i32, before: u32, best: Best) -> bool
+    ensures { λ r. ⌜ r ≡ (eqb before 0 || ltZ x (best .excess)) ⌝ }
 {
-    let least = best.excess;
-    if at_most(x, least) {
-        if at_most(least, x) {
-            return l.0 < best.laxity.0;
-        }
+    if before == 0 {
         return true;
     }
-    false
+    let least = best.excess;
+    is_smaller(x, least)
 }
 
-// The best once `l`, with excess `x`, is looked at.
-fn better(x: i32, l: Laxity, best: Best) -> Best
-    ensures { λ r.
-        let before = comes-before (leZ x (best .excess)) (leZ (best .excess) x) (l .0) (best .laxity .0) in
-        ⌜ r ≡ cond before (record { excess = x; laxity = l }) best ⌝ }
+// The best once the laxity k + 1 is looked at, which `here` jobs have; `before` jobs have a lesser one.
+fn better(best: Best, before: u32, here: u32, k: usize) -> Best
+    requires { ⌜ (k < longest-laxity) × (before + here < 2 ^ 31) ⌝ }
+    ensures { λ r. ⌜ r ≡ best-with best before here k ⌝ }
 {
-    if is_better(x, l, best) {
+    if here == 0 {
+        return best;
+    }
+    let l = Laxity(k as u32 + 1);
+    let x = excess(l, before + here);
+    if is_better(x, before, best) {
         return Best {
             excess: x,
             laxity: l,
@@ -62,28 +64,23 @@ fn better(x: i32, l: Laxity, best: Best) -> Best
     best
 }
 
-// The tight laxity of the jobs whose grade starts so: the least whose excess is smallest; 0 where there are no such jobs.
-pub(crate) fn tight(b: Board, start: u8, left: u8) -> Laxity
-    requires { ⌜ AllSeen b × Start (b .depth) start left ⌝ }
-    ensures { λ r. ⌜ r .0 ≡ tight-laxity (slot-of b) (starting-so b start left) ⌝ }
+// The tight laxity of the jobs whose grade starts so, and its excess: one column of counts after the other.
+pub(crate) fn tight(counts: &[u16; CELLS], start: u8, left: u8) -> Best
+    requires { ⌜ Start deepest start left ⌝ }
+    ensures { λ r. ⌜ TightOf (now (counts .entry)) start left r ⌝ }
+    ensures { λ r. ⌜ r .laxity .0 ≤ longest-laxity ⌝ }
 {
-    let count = b.count;
-    let now = b.slot;
-    // No job's excess is as large as this, since a job counts itself.
     let mut best = Best {
-        excess: Board::LONGEST_LAXITY as i32,
+        excess: 0,
         laxity: Laxity(0),
     };
-    let mut i: usize = 0;
-    while i < count {
-        let p = b.places[i];
-        if within::starts_with(p, start, left) {
-            let l = within::laxity_of(now, p);
-            let n = within::count_within(b, start, left, l);
-            let x = excess(l, n);
-            best = better(x, l, best);
-        }
-        i += 1;
+    let mut within: u32 = 0;
+    let mut k: usize = 0;
+    while k < LAXITIES {
+        let here = columns::column_of(counts, start, left, k);
+        best = better(best, within, here, k);
+        within += here;
+        k += 1;
     }
-    best.laxity
+    best
 }

@@ -1,15 +1,18 @@
 -- `search::bake`: the grade that the descent ends at has the no-regret set, and the soonest job of it is baked. Assumes nothing.
-use mathlib.Core.Path.{_≡_, sym, ap, _∙_, subst}
+use mathlib.Core.Path.{sym, ap, _∙_}
 use native.Mathlib.Omega.{arith}
 use borrow.Author.Needs.{needs}
-use Rattle.rule.specs.Bake.{baked, ticket-of, grade-of}
-use Rattle.board.specs.declared.Board.{Board}
+use Prim.Native.Nat.{_^_, _≤_}
+use lib.Pow.{pow-mono}
+use Rattle.rule.specs.Bake.{soonest, ticket-of, grade-of}
 use Rattle.board.specs.Limits.{deepest}
-use Rattle.board.specs.Held.{slot-of, held}
-use Rattle.board.proofs.Known.{all-places}
-use Rattle.search.specs.Inner.Inside.{AllSeen}
+use Rattle.board.specs.Held.{slot-of}
+use Rattle.counts.specs.Seen.{seen}
+use Rattle.search.specs.Inner.Seen.{bakes-seen}
+use Rattle.search.specs.Inner.Counts.{CountsOf}
+use Rattle.search.specs.Inner.Start.{Start}
+use Rattle.search.proofs.Seeing.{counts-seen, bakes-none, of-grade-starts}
 use Rattle.search.proofs.NextBit.{bakes-found}
-use Rattle.search.proofs.OnlySeen.{only-seen, only-all-seen, only-bakes, bakes-none}
 use Rattle.search.proofs.bake.Statement.{statement}
 use Rattle.search.proofs.bake.Tie as tie
 
@@ -20,34 +23,38 @@ returns : tie.Need-returns
 unfolding deepest ticket-of grade-of
 returns c = let e = bakes-none (c .before .before .args .b) (omega arith) in (sym (ap ticket-of e), sym (ap grade-of e))
 
-thinned-requires : tie.Need-thinned-requires
-thinned-requires c κs = search needs
+counts-of-requires : tie.Need-counts-of-requires
+counts-of-requires c κs = search needs
 
-only : (c : tie.After-thinned) → c .thinned .result ≡ only-seen (c .before .before .before .before .args .b)
-unfolding only-seen
-only c = c .thinned .ensures
-
-all-seen : (c : tie.After-thinned) → AllSeen (c .thinned .result)
+-- the counts are those of the jobs seen, at a depth in its range
+counted : (c : tie.After-counts-of) → let b = c .before .before .before .args .b in CountsOf (slot-of b) (b .depth) (seen b) (c .counts-of .result)
 unfolding deepest
-all-seen c =
-    let s = c .before .before .before .before in
-    subst AllSeen (sym (only c)) (only-all-seen (s .args .b) (all-places (s .args .b) _ (s .good .0)) (omega arith))
+counted c = counts-seen _ (omega arith) (c .counts-of .ensures)
+
+few : (c : tie.After-counts-of) → 2 ^ c .before .before .before .args .b .depth ≤ 2 ^ deepest
+few c = pow-mono (counted c .shallow)
 
 descend-requires : tie.Need-descend-requires
-descend-requires c κs = (all-seen c, omega arith)
+descend-requires c κs = omega (arith, few (c .before))
 
 tight-requires : tie.Need-tight-requires
-tight-requires c κs = (all-seen (c .before), omega arith)
+tight-requires c κs = omega (arith, few (c .before .before .before), c .before .descend .ensures .1)
 
 soonest-requires : tie.Need-soonest-requires
-soonest-requires c κs = (all-seen (c .before .before), omega arith)
+soonest-requires c κs = search needs
 
 returns-2 : tie.Need-returns-2
+unfolding bakes-seen
 returns-2 c =
     let t = c .before .tight in
-    let d = c .before .before .descend in
-    let s = c .before .before .before in
-    let e = bakes-found _ _ _ (d .result) (t .result .0) (d .ensures .0) (t .ensures) ∙ ap (λ (x : Board). baked (slot-of x) (x .depth) (held x)) (only s) ∙ only-bakes _ in
+    let d = c .before .before .before .descend in
+    let k = c .before .before .before .before .before in
+    let b = k .before .before .before .args .b in
+    let C = counted k in
+    let fits : Start (b .depth) (d .result) 0 = omega (arith, d .ensures .1) in
+    let e =
+    ap soonest (of-grade-starts b (d .result) (t .result .laxity .0) fits)
+    ∙ bakes-found (slot-of b) (b .depth) (seen b) (d .result) (t .result .laxity .0) (d .ensures .0 _ _ _ (omega arith) C) (t .ensures .0 _ _ _ fits C .0) in
     (c .soonest .ensures .0 ∙ ap ticket-of e, c .soonest .ensures .1 ∙ ap grade-of e)
 
 pub bake-spec : {M : Type 1} → statement M
@@ -56,7 +63,7 @@ bake-spec =
     (tie.spec
     cast-if1
     returns
-    thinned-requires
+    counts-of-requires
     descend-requires
     tight-requires
     soonest-requires

@@ -1,22 +1,22 @@
--- `thinning::thinned`: after i places the new ones begin with those among them whose jobs are kept. Assumes nothing.
+-- `thinning::thinned`: after i places the new ones begin with those among them whose jobs stay. Assumes nothing.
 use mathlib.Core.Path.{sym, _∙_}
 use mathlib.Core.Logic.{⊎-elim}
 use Prim.Native.Nat.{_-_}
 use native.Mathlib.Omega.{arith}
 use borrow.Author.Needs.{needs}
+use Rattle.rule.specs.Bake.{stays}
 use Rattle.board.specs.Limits.{places-held}
 use Rattle.board.specs.Held.{slot-of}
 use Rattle.board.proofs.Known.{all-places}
 use Rattle.board.proofs.Thinning.{Thinning, thinning-none, thinning-same, thinning-more, thinning-all}
-use Rattle.thinning.specs.Kept.{keeps}
 use Rattle.thinning.proofs.thinned.Statement.{statement}
 use Rattle.thinning.proofs.thinned.Tie as tie
 
 abbrev Inv-loop : tie.InvT-loop
-Inv-loop slot kept b count now depth places₀ n₀ i₀ places n i = Thinning b (keeps kept (slot-of b) (b .depth)) count i n places
+Inv-loop slot baked b count now places₀ n₀ i₀ places n i = Thinning b (stays (slot-of b) baked) count i n places
 
 abbrev μ-loop : tie.MeasureT-loop
-μ-loop slot kept b count now depth places₀ n₀ i₀ places n i = count - i
+μ-loop slot baked b count now places₀ n₀ i₀ places n i = count - i
 
 lesser-requires : tie.Need-lesser-requires Inv-loop μ-loop
 lesser-requires c κs = search needs
@@ -36,8 +36,8 @@ element-copy-out-p : tie.Need-element-copy-out-p Inv-loop μ-loop
 unfolding places-held
 element-copy-out-p c = search needs
 
-is-kept-requires : tie.Need-is-kept-requires Inv-loop μ-loop
-is-kept-requires c κs = search needs
+stays-requires : tie.Need-stays-requires Inv-loop μ-loop
+stays-requires c κs = search needs
 
 mul-places : tie.Need-mul-places Inv-loop μ-loop
 unfolding places-held
@@ -62,7 +62,7 @@ loop-again : tie.Need-loop-again Inv-loop μ-loop
 loop-again c =
     let t = c .before .before .before .before .loop .inv in
     let h = c .before .before .before .loop-test .taken in
-    let e = sym (c .before .is-kept .ensures) in
+    let e = sym (c .before .stays .ensures) in
     ⊎-elim (λ w. rw (w .1, w .2) (thinning-more t h (e ∙ w .0 .taken))) (λ w. rw (w .1, w .2) (thinning-same t h (e ∙ w .0 .left))) (c .if1 .came)
 
 returns : tie.Need-returns Inv-loop μ-loop
@@ -78,7 +78,7 @@ thinned-spec =
     loop-holds
     mul-p
     element-copy-out-p
-    is-kept-requires
+    stays-requires
     mul-places
     array-set-from-places
     add-n

@@ -1,12 +1,10 @@
 -- `search::descent::next_start`: the start with 0 behind it, or with 1. Assumes nothing.
-use mathlib.Core.Path.{sym, ap, _∙_}
-use mathlib.Core.List.{[], _∷_, _++_}
 use native.Mathlib.Omega.{arith}
+use denote.Ref.{now}
+use Rattle.board.specs.Limits.{deepest}
+use Rattle.search.proofs.Start.{start-small, next-fits}
+use Rattle.search.proofs.FromCounts.{next-is-zero, next-is-one}
 use borrow.Author.Needs.{needs}
-use borrow.Author.Tests.{not-true, not-false}
-use Rattle.search.specs.Inner.Inside.{first-bits}
-use Rattle.search.proofs.Start.{next-zero, next-one, zero-fits, one-fits}
-use Rattle.search.proofs.Walk.{next-byte}
 use Rattle.search.proofs.descent.next_start.Statement.{statement}
 use Rattle.search.proofs.descent.next_start.Tie as tie
 
@@ -14,42 +12,36 @@ has-zero-requires : tie.Need-has-zero-requires
 has-zero-requires c κs = search needs
 
 mul-result : tie.Need-mul-result
+unfolding deepest
 mul-result c =
     let s = c .before .before in
-    let a = s .args in
-    omega (arith, next-byte (a .b) (s .pre .0) (a .start) (a .left) (s .pre .1))
+    omega (arith, start-small deepest (s .args .left) (s .args .start) (s .pre .0))
 
 returns : tie.Need-returns
 returns c =
     let s = c .before .before in
     let a = s .args in
-    let d = a .b .depth in
-    let bit = not-true _ (sym (c .before .has-zero .ensures) ∙ c .if1 .taken) in (
-      next-zero d (a .left) (a .start) (s .pre .1) (s .pre .2) ∙ ap (λ n. first-bits d (a .start) (a .left) ++ (n ∷ [])) (sym bit),
-      zero-fits d (a .left) (a .start) (s .pre .1) (s .pre .2),
-    )
+    let z = c .before .has-zero in
+    (next-is-zero (now (a .counts)) (a .start) (a .left) (s .pre .1) (z .result) (z .ensures) (c .if1 .taken), omega (arith, next-fits (a .left) (a .start) (s .pre .1)))
 
 mul-result-2 : tie.Need-mul-result-2
+unfolding deepest
 mul-result-2 c =
     let s = c .before .before in
-    let a = s .args in
-    omega (arith, next-byte (a .b) (s .pre .0) (a .start) (a .left) (s .pre .1))
+    omega (arith, start-small deepest (s .args .left) (s .args .start) (s .pre .0))
 
 add-result : tie.Need-add-result
+unfolding deepest
 add-result c =
     let s = c .before .before in
-    let a = s .args in
-    omega (arith, next-byte (a .b) (s .pre .0) (a .start) (a .left) (s .pre .1))
+    omega (arith, start-small deepest (s .args .left) (s .args .start) (s .pre .0))
 
 returns-2 : tie.Need-returns-2
 returns-2 c =
     let s = c .before .before in
     let a = s .args in
-    let d = a .b .depth in
-    let bit = not-false _ (sym (c .before .has-zero .ensures) ∙ c .if1 .left) in (
-      next-one d (a .left) (a .start) (s .pre .1) (s .pre .2) ∙ ap (λ n. first-bits d (a .start) (a .left) ++ (n ∷ [])) (sym bit),
-      one-fits d (a .left) (a .start) (s .pre .1) (s .pre .2),
-    )
+    let z = c .before .has-zero in
+    (next-is-one (now (a .counts)) (a .start) (a .left) (s .pre .1) (z .result) (z .ensures) (c .if1 .left), omega (arith, next-fits (a .left) (a .start) (s .pre .1)))
 
 pub next-start-spec : {M : Type 1} → statement M
 next-start-spec =

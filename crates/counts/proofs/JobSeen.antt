@@ -11,7 +11,7 @@ use Rattle.lists.proofs.Tests.{test, same-test}
 use Rattle.lists.proofs.Members.{every-mem}
 use Rattle.rule.specs.Job.{Job, laxity, in-date}
 use Rattle.board.specs.Limits.{longest-laxity, deepest}
-use Rattle.thinning.specs.Kept.{seen-job}
+use Rattle.counts.specs.Seen.{seen-job}
 
 pub record JobSeen (now d : ℕ) (r : Job) : Type 0 where
   pub shallow : d ≤ deepest

@@ -1,0 +1,2 @@
+pub mod JobSeen
+pub mod Filling
