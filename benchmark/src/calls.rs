@@ -1,39 +1,59 @@
-//! Single calls: closing a full board, admitting on a nearly full one.
+//! Single calls: closing boards of several sizes and shapes, admitting on a nearly full one.
 
 use crate::convert;
+use crate::timed::Timed;
 use model::board::{Board, Job};
-use model::calls;
+use model::calls::{self, Closed};
 use model::draw::Draw;
 use oven::{Slot, Wait};
 use std::hint::black_box;
 use std::time::{Duration, Instant};
 
-/// Calls timed together.
-const REPEATS: u32 = 100;
-/// In each round every call is timed once, so that a slow spell of the machine meets all of them.
-const ROUNDS: u32 = 40;
+/// Calls are timed together for about so long, on each side alike: then starting anew and being interrupted cost a slow side no more than a fast one.
+const BATCH: Duration = Duration::from_millis(2);
+/// In each round every side of a call has one batch, so that a slow spell of the machine meets all of them.
+const ROUNDS: u32 = 5;
+/// In each pass every call has its rounds.
+pub const PASSES: u32 = 20;
 
-/// How laxities and grades lie on a board.
+/// How many racks a board holds, and which shapes it has at each of these sizes.
+pub const SIZES: [u32; 4] = [32, 64, 128, 256];
+pub const SHAPES: [Shape; 3] = [Shape::Spread, Shape::OneGrade, Shape::OneWait];
+
+/// How waits and grades lie on a board. Where there is one wait, this slot is the last of every rack.
 #[derive(Clone, Copy)]
-pub enum Spread {
-    Both,
+pub enum Shape {
+    Spread,
     OneGrade,
-    OneLaxity,
+    OneWait,
+    AdmittedWithLongest,
+}
+
+impl Shape {
+    pub fn name(self) -> &'static str {
+        match self {
+            Shape::Spread => "waits and grades spread",
+            Shape::OneGrade => "one grade",
+            Shape::OneWait => "one wait",
+            Shape::AdmittedWithLongest => "each admitted with the longest wait",
+        }
+    }
 }
 
 /// A sound board of depth 3 in slot 100 that holds so many racks, eight of each slot that has any.
-pub fn board(held: u32, spread: Spread) -> Board {
+fn board(held: u32, shape: Shape) -> Board {
     let (slot, mut draw) = (100, Draw::new(7));
     let first = slot + 1 - (held + 7) / 8;
     let jobs: Vec<Job> = (0..held)
         .map(|i| {
             let admitted = first + i / 8;
-            let deadline = match spread {
-                Spread::OneLaxity => slot,
+            let deadline = match shape {
+                Shape::OneWait => slot,
+                Shape::AdmittedWithLongest => admitted + 31,
                 _ => draw.between(slot, admitted + 31),
             };
-            let grade = match spread {
-                Spread::OneGrade => 5,
+            let grade = match shape {
+                Shape::OneGrade => 5,
                 _ => draw.between(0, 7),
             };
             Job {
@@ -52,37 +72,62 @@ fn keep<T>(result: T) {
     let _ = black_box(result);
 }
 
-/// The least time of each call over all rounds.
-fn least<const N: usize>(mut calls: [&mut dyn FnMut(); N]) -> [Duration; N] {
-    let mut best = [Duration::MAX; N];
+/// How many calls make a batch.
+fn repeats(call: &mut dyn FnMut()) -> u32 {
+    let (began, mut calls) = (Instant::now(), 0);
+    while began.elapsed() < BATCH {
+        call();
+        calls += 1;
+    }
+    calls
+}
+
+/// The time of a call, from so many together.
+fn batch(call: &mut dyn FnMut(), repeats: u32) -> Duration {
+    let began = Instant::now();
+    (0..repeats).for_each(|_| call());
+    began.elapsed() / repeats
+}
+
+/// The least time of each side over all rounds.
+fn least(sides: &mut [&mut dyn FnMut()]) -> Vec<Duration> {
+    let repeats: Vec<u32> = sides.iter_mut().map(|call| repeats(call)).collect();
+    let mut best = vec![Duration::MAX; sides.len()];
     for _ in 0..ROUNDS {
-        for (call, least) in calls.iter_mut().zip(&mut best) {
-            let began = Instant::now();
-            (0..REPEATS).for_each(|_| call());
-            *least = (*least).min(began.elapsed() / REPEATS);
+        for ((call, repeats), least) in sides.iter_mut().zip(&repeats).zip(&mut best) {
+            *least = (*least).min(batch(call, *repeats));
         }
     }
     best
 }
 
-fn show(name: &str, ours: Duration, model: Duration, sorted: Option<Duration>) {
-    let ratio = |other: Duration| ours.as_secs_f64() / other.as_secs_f64();
-    let beside = sorted.map_or(String::new(), |time| {
-        format!(", {:.2} of sorting ({time:.1?})", ratio(time))
-    });
-    println!(
-        "{name}: {ours:.1?}, {:.2} of the model ({model:.1?}){beside}",
-        ratio(model)
-    );
+fn close_by_sorting(board: &mut Board) -> Closed {
+    let pick = |jobs: &[Job], slot, depth| benchmark::job_to_bake(&mut jobs.to_vec(), slot, depth);
+    calls::close_with(board, 256, pick).expect("a sound board")
+}
+
+fn close_by_model(board: &mut Board) -> Closed {
+    calls::close(board, 256).expect("a sound board")
+}
+
+/// All sides close the board, bake the same rack and give up as many.
+fn check(board: &Board) {
+    let (mut tickets, mut grades, mut slots) = ([0; 256], [0; 256], [Slot(0); 256]);
+    let given = convert::board(board);
+    let ours = oven::calls::close(given, &mut tickets, &mut grades, &mut slots);
+    let model = close_by_model(&mut board.clone());
+    assert_eq!(model, close_by_sorting(&mut board.clone()));
+    assert_eq!((0, model.ticket), (ours.refusal, ours.ticket));
+    assert_eq!(model.expired.len(), ours.given_up as usize);
 }
 
 /// Closes a board; the lent lists are cleared once, before all calls.
-pub fn closing(name: &str, board: &Board) {
-    let given = convert::board(board);
+fn closing(held: u32, shape: Shape) -> Timed {
+    let board = board(held, shape);
+    check(&board);
+    let given = convert::board(&board);
     let (mut tickets, mut grades, mut slots) = ([0; 256], [0; 256], [Slot(0); 256]);
-    let by_sorting =
-        |jobs: &[Job], slot, depth| benchmark::job_to_bake(&mut jobs.to_vec(), slot, depth);
-    let [ours, model, sorted] = least([
+    let times = least(&mut [
         &mut || {
             keep(oven::calls::close(
                 black_box(given),
@@ -91,34 +136,56 @@ pub fn closing(name: &str, board: &Board) {
                 &mut slots,
             ))
         },
-        &mut || keep(calls::close(&mut black_box(board.clone()), 256)),
-        &mut || {
-            keep(calls::close_with(
-                &mut black_box(board.clone()),
-                256,
-                by_sorting,
-            ))
-        },
+        &mut || keep(close_by_model(&mut black_box(board.clone()))),
+        &mut || keep(close_by_sorting(&mut black_box(board.clone()))),
     ]);
-    show(name, ours, model, Some(sorted));
+    Timed {
+        name: format!("closing, {held} racks, {}", shape.name()),
+        times,
+    }
 }
 
-/// Admits one rack more on a board.
-pub fn admitting(name: &str, board: &Board) {
-    let given = convert::board(board);
-    let ticket = board.highest_ticket + 1;
-    let [ours, model] = least([
-        &mut || keep(oven::calls::admit(black_box(given), ticket, Wait(9), 4)),
-        &mut || keep(calls::admit(&mut black_box(board.clone()), ticket, 9, 4)),
+/// Admits one rack more on a board. Admitting has no search, so there is nothing to sort.
+fn admitting() -> Timed {
+    let board = board(255, Shape::Spread);
+    let given = convert::board(&board);
+    assert_eq!(0, oven::calls::admit(given, 256, Wait(9), 4).refusal);
+    assert_eq!(Ok(108), calls::admit(&mut board.clone(), 256, 9, 4));
+    let times = least(&mut [
+        &mut || keep(oven::calls::admit(black_box(given), 256, Wait(9), 4)),
+        &mut || keep(calls::admit(&mut black_box(board.clone()), 256, 9, 4)),
     ]);
-    show(name, ours, model, None);
+    Timed {
+        name: "admitting on 255 racks, waits and grades spread".into(),
+        times,
+    }
 }
 
-/// Opens a board, which does little else than to hand one over; and asks whether a board is sound.
-pub fn parts(board: &Board) {
-    let given = convert::board(board);
-    let [opening, soundness] = least([&mut || keep(oven::calls::open(black_box(3))), &mut || {
-        keep(oven::calls::sound(black_box(given)))
-    }]);
-    println!("of these: a board made and handed over {opening:.1?}, a check of soundness {soundness:.1?}");
+/// Opens a board, which does little else than to hand one over.
+fn opening() -> Timed {
+    Timed {
+        name: "opening: a board made and handed over".into(),
+        times: least(&mut [&mut || keep(oven::calls::open(black_box(3)))]),
+    }
+}
+
+/// Asks whether a full board is sound, which is a part of every closing and admitting.
+fn soundness() -> Timed {
+    let given = convert::board(&board(256, Shape::Spread));
+    assert!(oven::calls::sound(given));
+    Timed {
+        name: "soundness of 256 racks".into(),
+        times: least(&mut [&mut || keep(oven::calls::sound(black_box(given)))]),
+    }
+}
+
+/// Times every call: ours, the model's and the sorting one's, as far as there is one. First come the closings, shape by shape and size by size.
+pub fn pass() -> Vec<Timed> {
+    let mut all = Vec::new();
+    for shape in SHAPES {
+        all.extend(SIZES.iter().map(|&held| closing(held, shape)));
+    }
+    all.push(closing(256, Shape::AdmittedWithLongest));
+    all.extend([admitting(), opening(), soundness()]);
+    all
 }

@@ -7,31 +7,108 @@ use std::fs::{self, File};
 use std::hash::{Hash, Hasher};
 use std::io::{self, BufRead, BufReader};
 use std::path::Path;
-use std::process::{Command, Stdio};
-use std::thread;
+use std::process::{self, Command};
 use std::time::{Duration, Instant};
+use std::{env, thread};
 
-/// A day's lines: depth 3, so many slots, so many racks in each.
-pub fn lines(slots: u32, racks: u32) -> String {
-    let mut draw = Draw::new(11);
-    let mut text = String::from("D,3\n");
-    for slot in 0..slots {
-        for rack in 1..=racks {
-            let (laxity, grade) = (draw.between(1, 32), draw.between(0, 7));
-            let _ = writeln!(text, "A,{},{laxity},{grade}", slot * racks + rack);
-        }
-        text.push_str("B\n");
+/// A day of depth 3: so many slots, so many racks in each, their waits from the shortest to 32. Each program runs so many times.
+pub struct Day {
+    pub slots: u32,
+    racks: u32,
+    shortest: u32,
+    rounds: u32,
+}
+
+const fn day(slots: u32, racks: u32, shortest: u32, rounds: u32) -> Day {
+    Day {
+        slots,
+        racks,
+        shortest,
+        rounds,
     }
-    text
+}
+
+/// Where every wait is the longest, the board is as full as a day makes it.
+const DAYS: [Day; 7] = [
+    day(25_000, 8, 1, 5),
+    day(50_000, 8, 1, 5),
+    day(100_000, 8, 1, 5),
+    day(100_000, 2, 1, 5),
+    day(20_000, 8, 32, 5),
+    day(1_000_000, 2, 1, 3),
+    day(1_000_000, 8, 1, 3),
+];
+
+/// A program's shortest run, and what was last seen of it.
+#[derive(Clone, Copy)]
+pub struct Ran {
+    pub time: Duration,
+    pub seen: Seen,
+}
+
+impl Day {
+    pub fn name(&self) -> String {
+        let Day { slots, racks, .. } = self;
+        let waits = match self.shortest {
+            32 => "every wait 32",
+            _ => "waits spread",
+        };
+        format!("a day of {slots} slots, {racks} racks each, {waits}")
+    }
+
+    fn lines(&self) -> String {
+        let mut draw = Draw::new(11);
+        let mut text = String::from("D,3\n");
+        for slot in 0..self.slots {
+            for rack in 1..=self.racks {
+                let (wait, grade) = (draw.between(self.shortest, 32), draw.between(0, 7));
+                let _ = writeln!(text, "A,{},{wait},{grade}", slot * self.racks + rack);
+            }
+            text.push_str("B\n");
+        }
+        text
+    }
+
+    /// Runs each day, and hands on what each program's shortest run took.
+    pub fn each(programs: &[&str], mut done: impl FnMut(&Day, &[Ran])) -> io::Result<()> {
+        let folder = env::temp_dir().join(format!("oven-benchmark-{}", process::id()));
+        fs::create_dir_all(&folder)?;
+        for day in &DAYS {
+            done(day, &day.run(programs, &folder)?);
+        }
+        fs::remove_dir_all(&folder)
+    }
+
+    /// Runs the programs in turn, so many times over; the least time of each counts.
+    fn run(&self, programs: &[&str], folder: &Path) -> io::Result<Vec<Ran>> {
+        let (input, output) = (folder.join("day.txt"), folder.join("day.out"));
+        fs::write(&input, self.lines())?;
+        let mut best: Vec<Option<Ran>> = vec![None; programs.len()];
+        let mut expected = None;
+        for _ in 0..self.rounds {
+            for (program, least) in programs.iter().zip(&mut best) {
+                let ran = once(program, &input, &output)?;
+                if least.map_or(true, |least| ran.time < least.time) {
+                    *least = Some(ran);
+                }
+                let printed = fingerprint(&output)?;
+                assert!(
+                    *expected.get_or_insert(printed) == printed,
+                    "{program} prints something else"
+                );
+            }
+        }
+        Ok(best.into_iter().flatten().collect())
+    }
 }
 
 /// What the system says of a running program, as last seen: its peak memory in kB, its reads and writes, and its time inside the system.
 #[derive(Clone, Copy, Default)]
-struct Seen {
-    peak: u64,
-    reads: u64,
-    writes: u64,
-    system: Duration,
+pub struct Seen {
+    pub peak: u64,
+    pub reads: u64,
+    pub writes: u64,
+    pub system: Duration,
 }
 
 impl Seen {
@@ -61,20 +138,21 @@ fn named(text: &str, name: &str) -> Option<u64> {
     rest.split_whitespace().next()?.parse().ok()
 }
 
-/// One run of a program: its time, and what was last seen of it.
-fn once(program: &str, input: &Path, output: &Path) -> io::Result<(Duration, Seen)> {
+/// One run of a program, timed from its start to its end.
+fn once(program: &str, input: &Path, output: &Path) -> io::Result<Ran> {
+    let (input, output) = (File::open(input)?, File::create(output)?);
+    let mut command = Command::new(program);
+    command.stdin(input).stdout(output);
     let began = Instant::now();
-    let mut child = Command::new(program)
-        .stdin(File::open(input)?)
-        .stdout(Stdio::from(File::create(output)?))
-        .spawn()?;
-    let mut last = Seen::default();
+    let mut child = command.spawn()?;
+    let mut seen = Seen::default();
     loop {
         if let Some(ended) = child.try_wait()? {
+            let time = began.elapsed();
             assert!(ended.success(), "{program} failed");
-            return Ok((began.elapsed(), last));
+            return Ok(Ran { time, seen });
         }
-        last = Seen::of(child.id()).unwrap_or(last);
+        seen = Seen::of(child.id()).unwrap_or(seen);
         thread::sleep(Duration::from_millis(1));
     }
 }
@@ -96,51 +174,4 @@ fn fingerprint(output: &Path) -> io::Result<u64> {
     given_up.sort_unstable();
     given_up.hash(&mut hasher);
     Ok(hasher.finish())
-}
-
-/// Runs the three programs on one day in turn, so many times over; the least time of each counts.
-pub fn day(
-    programs: &[String],
-    folder: &Path,
-    slots: u32,
-    racks: u32,
-    rounds: u32,
-) -> io::Result<()> {
-    let (input, output) = (folder.join("day.txt"), folder.join("day.out"));
-    fs::write(&input, lines(slots, racks))?;
-    let mut best = vec![(Duration::MAX, Seen::default()); programs.len()];
-    let mut expected = None;
-    for _ in 0..rounds {
-        for (program, least) in programs.iter().zip(&mut best) {
-            let run = once(program, &input, &output)?;
-            if run.0 < least.0 {
-                *least = run;
-            }
-            let printed = fingerprint(&output)?;
-            assert!(
-                *expected.get_or_insert(printed) == printed,
-                "{program} prints something else"
-            );
-        }
-    }
-    let ours = best[0];
-    let beside: Vec<String> = best[1..]
-        .iter()
-        .map(|&(time, seen)| {
-            format!(
-                "{:.2} ({time:.2?}, {} kB)",
-                ours.0.as_secs_f64() / time.as_secs_f64(),
-                seen.peak
-            )
-        })
-        .collect();
-    println!(
-        "a day of {slots} slots, {racks} racks each: {:.2?}, {} kB; of the model {}; of sorting {}",
-        ours.0, ours.1.peak, beside[0], beside[1]
-    );
-    println!(
-        "    {} reads and {} writes, {:.2?} in the system",
-        ours.1.reads, ours.1.writes, ours.1.system
-    );
-    Ok(())
 }

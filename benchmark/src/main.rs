@@ -1,44 +1,38 @@
-//! The board beside the model and beside a Rust program that sorts, as ratios from one run.
+//! The board beside the model and beside a Rust program that sorts, as ratios from one run; or two checkouts of it, both beside these.
 //!
-//! Arguments: our program, the model's, the one that sorts. The calls go by the library's Rust crate.
+//! The calls go by the library's Rust crate. Two checkouts are two libraries, and so two of these programs: one runs both, each with `calls`.
 
+mod beside;
 mod calls;
+#[allow(dead_code)] // the calls' tests use all of it
 #[path = "../../tests/calls/src/convert.rs"]
 mod convert;
 mod days;
+mod run;
+mod tables;
+mod timed;
 
-use calls::Spread;
-use std::{env, fs, io};
+use std::{env, io, process};
+
+const USAGE: &str = "benchmark OVEN MODEL SORTING
+benchmark calls
+benchmark beside BENCHMARK BENCHMARK OVEN OVEN MODEL SORTING";
 
 fn main() -> io::Result<()> {
-    let programs: Vec<String> = env::args().skip(1).collect();
-    for held in [32, 64, 128, 256] {
-        calls::closing(
-            &format!("closing, {held} racks"),
-            &calls::board(held, Spread::Both),
-        );
+    let words: Vec<String> = env::args().skip(1).collect();
+    let words: Vec<&str> = words.iter().map(String::as_str).collect();
+    match &words[..] {
+        ["calls"] => calls::pass()
+            .iter()
+            .for_each(|call| println!("{}", call.line())),
+        ["beside", this, other, programs @ ..] if programs.len() == 4 => {
+            beside::run(this, other, programs)?
+        }
+        programs if programs.len() == 3 => run::run(programs)?,
+        _ => {
+            eprintln!("{USAGE}");
+            process::exit(2)
+        }
     }
-    calls::closing(
-        "closing, 256 of one grade",
-        &calls::board(256, Spread::OneGrade),
-    );
-    calls::closing(
-        "closing, 256 of one wait",
-        &calls::board(256, Spread::OneLaxity),
-    );
-    calls::admitting("admitting on 255 racks", &calls::board(255, Spread::Both));
-    calls::parts(&calls::board(256, Spread::Both));
-    let folder = env::temp_dir().join(format!("oven-benchmark-{}", std::process::id()));
-    fs::create_dir_all(&folder)?;
-    for (slots, racks, rounds) in [
-        (25_000, 8, 5),
-        (50_000, 8, 5),
-        (100_000, 8, 5),
-        (100_000, 2, 5),
-        (1_000_000, 2, 3),
-        (1_000_000, 8, 1),
-    ] {
-        days::day(&programs, &folder, slots, racks, rounds)?;
-    }
-    fs::remove_dir_all(&folder)
+    Ok(())
 }

@@ -1,0 +1,108 @@
+//! Two checkouts' calls and days, both beside the model and the program that sorts.
+
+use crate::calls::PASSES;
+use crate::days::{Day, Ran};
+use crate::tables::{growth, head, of, quotient, row, time};
+use crate::timed::{keep_least, Timed};
+use std::io;
+use std::process::{Command, Stdio};
+use std::time::Duration;
+
+/// The benchmarks are this source linked with either library. Programs: this checkout's, the other's, the model's, the one that sorts.
+pub fn run(this: &str, other: &str, programs: &[&str]) -> io::Result<()> {
+    calls(this, other)?;
+    head(&[
+        "what",
+        "this",
+        "other",
+        "this of other",
+        "this of the model",
+        "other of the model",
+        "this of sorting",
+        "other of sorting",
+        "a slot, this",
+        "a slot, other",
+    ]);
+    Day::each(programs, |day, ran| row(&cells(day, ran)))
+}
+
+/// One pass of the calls, by a process of its own.
+fn pass(benchmark: &str) -> io::Result<Vec<Timed>> {
+    let ended = Command::new(benchmark)
+        .arg("calls")
+        .stderr(Stdio::inherit())
+        .output()?;
+    assert!(ended.status.success(), "{benchmark} failed");
+    let printed = String::from_utf8_lossy(&ended.stdout);
+    Ok(printed.lines().map(Timed::read).collect())
+}
+
+fn calls(this: &str, other: &str) -> io::Result<()> {
+    let (mut here, mut there) = (Vec::new(), Vec::new());
+    for _ in 0..PASSES {
+        keep_least(&mut here, pass(this)?);
+        keep_least(&mut there, pass(other)?);
+    }
+    head(&[
+        "what",
+        "this",
+        "other",
+        "this of other",
+        "this of the model",
+        "other of the model",
+        "this of sorting",
+        "other of sorting",
+    ]);
+    for (here, there) in here.iter().zip(&there) {
+        let [ours, model, sorting] = [0, 1, 2].map(|side| here.times.get(side));
+        let [theirs, model_there, sorting_there] = [0, 1, 2].map(|side| there.times.get(side));
+        row(&[
+            here.name.clone(),
+            time(ours),
+            time(theirs),
+            of(ours, theirs),
+            of(ours, model),
+            of(theirs, model_there),
+            of(ours, sorting),
+            of(theirs, sorting_there),
+        ]);
+    }
+    unsteadiness(&here, &there);
+    growth(&[
+        ("this", &here, 0),
+        ("other", &there, 0),
+        ("model", &here, 1),
+        ("sorting", &here, 2),
+    ]);
+    Ok(())
+}
+
+/// The model and the program that sorts are the same in both processes, so their times should be.
+fn unsteadiness(here: &[Timed], there: &[Timed]) {
+    let pairs = here.iter().zip(there);
+    let same = pairs.flat_map(|(here, there)| here.times.iter().zip(&there.times).skip(1));
+    let mut quotients: Vec<f64> = same.map(|(here, there)| quotient(*here, *there)).collect();
+    quotients.sort_by(f64::total_cmp);
+    println!(
+        "\nModel and sorting are the same code on both sides: their times here are {:.2} to {:.2} of those there.",
+        quotients[0],
+        quotients[quotients.len() - 1]
+    );
+}
+
+fn cells(day: &Day, ran: &[Ran]) -> Vec<String> {
+    let [this, other, model, sorting] = [0, 1, 2, 3].map(|side| Some(&ran[side].time));
+    let slot = |time: Duration| time / day.slots;
+    vec![
+        day.name(),
+        time(this),
+        time(other),
+        of(this, other),
+        of(this, model),
+        of(other, model),
+        of(this, sorting),
+        of(other, sorting),
+        time(this.copied().map(slot).as_ref()),
+        time(other.copied().map(slot).as_ref()),
+    ]
+}

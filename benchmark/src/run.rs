@@ -1,0 +1,78 @@
+//! One checkout's calls and days beside the model and the program that sorts.
+
+use crate::calls::{self, PASSES};
+use crate::days::{Day, Ran};
+use crate::tables::{growth, head, of, row, time};
+use crate::timed::{keep_least, Timed};
+use std::io;
+
+/// Programs: ours, the model's, the one that sorts.
+pub fn run(programs: &[&str]) -> io::Result<()> {
+    calls();
+    head(&[
+        "what",
+        "ours",
+        "a slot",
+        "model",
+        "sorting",
+        "of the model",
+        "of sorting",
+        "peak memory of each",
+        "our reads, writes, time in the system",
+    ]);
+    Day::each(programs, |day, ran| row(&cells(day, ran)))
+}
+
+fn calls() {
+    let mut best = Vec::new();
+    (0..PASSES).for_each(|_| keep_least(&mut best, calls::pass()));
+    head(&[
+        "what",
+        "ours",
+        "model",
+        "sorting",
+        "of the model",
+        "of sorting",
+    ]);
+    for Timed { name, times } in &best {
+        let [ours, model, sorting] = [0, 1, 2].map(|side| times.get(side));
+        row(&[
+            name.clone(),
+            time(ours),
+            time(model),
+            time(sorting),
+            of(ours, model),
+            of(ours, sorting),
+        ]);
+    }
+    growth(&[
+        ("ours", &best, 0),
+        ("model", &best, 1),
+        ("sorting", &best, 2),
+    ]);
+}
+
+fn cells(day: &Day, ran: &[Ran]) -> Vec<String> {
+    let [ours, model, sorting] = [0, 1, 2].map(|side| Some(&ran[side].time));
+    let peaks: Vec<String> = ran
+        .iter()
+        .map(|ran| format!("{} kB", ran.seen.peak))
+        .collect();
+    let seen = ran[0].seen;
+    vec![
+        day.name(),
+        time(ours),
+        time(Some(&(ran[0].time / day.slots))),
+        time(model),
+        time(sorting),
+        of(ours, model),
+        of(ours, sorting),
+        peaks.join(", "),
+        format!(
+            "{}, {}, {:.2}s",
+            seen.reads,
+            seen.writes,
+            seen.system.as_secs_f64()
+        ),
+    ]
+}
