@@ -8,21 +8,22 @@ use std::io;
 use std::process::{Command, Stdio};
 use std::time::Duration;
 
+/// What is said of each call, and of each day.
+const COLUMNS: [&str; 8] = [
+    "what",
+    "this",
+    "other",
+    "this of other",
+    "this of the model",
+    "other of the model",
+    "this of sorting",
+    "other of sorting",
+];
+
 /// The benchmarks are this source linked with either library. Programs: this checkout's, the other's, the model's, the one that sorts.
 pub fn run(this: &str, other: &str, programs: &[&str]) -> io::Result<()> {
     calls(this, other)?;
-    head(&[
-        "what",
-        "this",
-        "other",
-        "this of other",
-        "this of the model",
-        "other of the model",
-        "this of sorting",
-        "other of sorting",
-        "a slot, this",
-        "a slot, other",
-    ]);
+    head(&[&COLUMNS[..], &["a slot, this", "a slot, other"]].concat());
     Day::each(programs, |day, ran| row(&cells(day, ran)))
 }
 
@@ -43,16 +44,7 @@ fn calls(this: &str, other: &str) -> io::Result<()> {
         keep_least(&mut here, pass(this)?);
         keep_least(&mut there, pass(other)?);
     }
-    head(&[
-        "what",
-        "this",
-        "other",
-        "this of other",
-        "this of the model",
-        "other of the model",
-        "this of sorting",
-        "other of sorting",
-    ]);
+    head(&COLUMNS);
     for (here, there) in here.iter().zip(&there) {
         let [ours, model, sorting] = [0, 1, 2].map(|side| here.times.get(side));
         let [theirs, model_there, sorting_there] = [0, 1, 2].map(|side| there.times.get(side));

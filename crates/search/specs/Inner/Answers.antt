@@ -1,4 +1,4 @@
--- What the search answers from counts alone: 01's answer for all jobs, in any order, that have these counts, in any slot and at any depth.
+-- What the search answers from counts alone: 01's answer for all jobs, in any order, that have these counts, in any slot and at any depth of a board.
 use mathlib.Core.Path.{_≡_}
 use mathlib.Core.Bool.{Bool, not, _||_, cond}
 use mathlib.Core.List.{List, [], _∷_, _++_}
