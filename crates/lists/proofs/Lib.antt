@@ -11,3 +11,4 @@ pub mod Filling
 pub mod Spread
 pub mod Less
 pub mod Before
+pub mod Sorting

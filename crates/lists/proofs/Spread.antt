@@ -15,7 +15,7 @@ use Rattle.lists.proofs.Members.{has-mem}
 use Rattle.lists.proofs.Counting.{one-if-yes, one-if-no, count-split, count-has, count-every, count-none, count-mono}
 
 -- below suc n is below n, or n
-below-suc : (x n : ℕ) → one-if (ltb x (suc n)) ≡ one-if (ltb x n) + one-if (eqb x n)
+pub below-suc : (x n : ℕ) → one-if (ltb x (suc n)) ≡ one-if (ltb x n) + one-if (eqb x n)
 below-suc x n = go (cmp n x)
   where
     go : (n ≤ x) ⊎ (x < n) → one-if (ltb x (suc n)) ≡ one-if (ltb x n) + one-if (eqb x n)
