@@ -1,6 +1,9 @@
 pub mod Rows
 pub mod HeldAfter
+pub mod Listing
 pub mod SoundAfterAdmitting
 pub mod SoundAfterThinning
 pub mod SoundAfter
 pub mod SoundAfterOpening
+pub mod ListedBefore
+pub mod GivenUp

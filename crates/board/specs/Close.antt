@@ -1,15 +1,17 @@
 -- What closing answers and leaves behind.
-use mathlib.Core.Bool.{not}
+use mathlib.Core.Bool.{Bool, not, _&&_, _||_}
 use mathlib.Core.List.{List, _∷_}
 use mathlib.Core.Option.{Option}
 use Prim.Native.Nat.{ℕ, zero, suc, _+_}
+use lib.Dec.{ltb, eqb}
 use lib.ListN.{length}
 use Rattle.lists.specs.Select.{select}
+use Rattle.lists.specs.Sorted.{sorted}
 use Rattle.rule.specs.Job.{Job}
 use Rattle.rule.specs.Bake.{baked, expires, stays, ticket-of, grade-of}
 use Rattle.board.specs.declared.Board.{Board}
 use Rattle.board.specs.declared.Closed.{Closed}
-use Rattle.board.specs.Rows.{_if_, first-given, close-rows}
+use Rattle.board.specs.Rows.{_if_, first-given, close-rows, unless-refused}
 use Rattle.board.specs.Held.{slot-of, held, thinned}
 use Rattle.board.specs.Sound.{sound}
 
@@ -17,27 +19,24 @@ use Rattle.board.specs.Sound.{sound}
 unfoldable pub close-number : Board → (lent : ℕ) → ℕ
 close-number b lent = first-given (2 if not (sound b) ∷ close-rows (slot-of b) lent)
 
--- A slot closed with the ticket t baked, or none, which is ticket 0. 'gives up every other rack whose last slot is the present one': these jobs, each
--- once. Their order in the lent list is left open.
+-- 02, Four: 'by grade from best to worst, within a grade by rising ticket'. Grade 0 is the best.
+unfoldable pub listed-before : Job → Job → Bool
+listed-before r q = ltb (r .grade) (q .grade) || (eqb (r .grade) (q .grade) && ltb (r .ticket) (q .ticket))
+
+-- A slot closed with the ticket t baked, or none, which is ticket 0. 'gives up every other rack whose last slot is the present one': these jobs, in that
+-- order.
 unfoldable pub given-up-with : Board → (t : ℕ) → List Job
-given-up-with b t = select (expires (slot-of b) t) (held b)
+given-up-with b t = sorted listed-before (select (expires (slot-of b) t) (held b))
 
 -- 'and moves to the next slot', with the jobs that stay
 unfoldable pub moved-on-with : Board → (t : ℕ) → Board
 moved-on-with b t = thinned b (slot-of b + 1) (stays (slot-of b) t)
 
--- the answer with the job o baked, by the number of the refusal; 'a refusal hands back the board [..] unchanged; whatever else the answer holds besides
--- the number is then 0'
-unfoldable pub closed-with : (number : ℕ) → Board → Option Job → Closed
-closed-with zero b o =
-    record {
-      refusal = 0;
-      ticket = ticket-of o;
-      grade = grade-of o;
-      listed = length (given-up-with b (ticket-of o));
-      board = moved-on-with b (ticket-of o);
-    }
-closed-with (suc n) b o = record { refusal = suc n; ticket = 0; grade = 0; listed = 0; board = b }
+-- the answer with the job o baked and so many jobs listed, by the number of the refusal; 'a refusal hands back the board [..] unchanged; whatever else
+-- the answer holds besides the number is then 0'
+unfoldable pub closed-with : (number : ℕ) → Board → Option Job → (listed : ℕ) → Closed
+closed-with zero b o n = record { refusal = 0; ticket = ticket-of o; grade = grade-of o; listed = n; board = moved-on-with b (ticket-of o) }
+closed-with (suc k) b o n = record { refusal = suc k; ticket = 0; grade = 0; listed = 0; board = b }
 
 -- 'Closing a slot bakes that rack': the rule's
 unfoldable pub bakes : Board → Option Job
@@ -47,4 +46,8 @@ unfoldable pub given-up : Board → List Job
 given-up b = given-up-with b (ticket-of (bakes b))
 
 unfoldable pub closed : Board → (lent : ℕ) → Closed
-closed b lent = closed-with (close-number b lent) b (bakes b)
+closed b lent = closed-with (close-number b lent) b (bakes b) (length (given-up b))
+
+-- the jobs that it lists
+unfoldable pub listing : Board → (lent : ℕ) → List Job
+listing b lent = unless-refused (close-number b lent) (given-up b)

@@ -1,13 +1,13 @@
 -- The tally's events: 'takes in one event at a time: kind 0 admitted, 1 baked, 2 given up, with a grade'.
 use mathlib.Core.Bool.{Bool, cond}
 use mathlib.Core.List.{List, [], _∷_, _++_, map}
-use Prim.Native.Nat.{ℕ, zero, suc}
+use Prim.Native.Nat.{ℕ}
 use lib.Dec.{eqb}
 use Rattle.lists.specs.Select.{every}
 use Rattle.rule.specs.Job.{Job}
 use Rattle.board.specs.declared.Board.{Board}
-use Rattle.board.specs.declared.Closed.{Closed}
 use Rattle.board.specs.declared.Tally.{Tally}
+use Rattle.board.specs.Rows.{unless-refused}
 use Rattle.board.specs.Admit.{admitted}
 use Rattle.board.specs.Close.{closed, given-up}
 use Rattle.board.specs.Tally.{counted}
@@ -28,12 +28,7 @@ pub record Event : Type 0 where
 abbrev pub event : (kind grade : ℕ) → Event
 event k g = record { kind = k; grade = g }
 
--- 'a refusal hands back the board, list or tally unchanged': it has no event
-unfoldable pub unless-refused : (refusal : ℕ) → List Event → List Event
-unless-refused zero es = es
-unless-refused (suc n) es = []
-
--- the events of an admitting
+-- The events of an admitting; a call that is refused has none.
 unfoldable pub admit-events : Board → (ticket laxity grade : ℕ) → List Event
 admit-events b t w g = unless-refused (admitted b t w g .refusal) (event admitted-kind g ∷ [])
 
@@ -45,12 +40,9 @@ baked-events t g = cond (eqb t 0) [] (event baked-kind g ∷ [])
 unfoldable pub given-up-events : List Job → List Event
 given-up-events A = map (λ (r : Job). event given-up-kind (r .grade)) A
 
--- the events of a closing, by its answer and the jobs that it gives up
-unfoldable pub closing-events : Closed → List Job → List Event
-closing-events r A = unless-refused (r .refusal) (baked-events (r .ticket) (r .grade) ++ given-up-events A)
-
+-- the events of a closing
 unfoldable pub close-events : Board → (lent : ℕ) → List Event
-close-events b lent = closing-events (closed b lent) (given-up b)
+close-events b lent = let r = closed b lent in unless-refused (r .refusal) (baked-events (r .ticket) (r .grade) ++ given-up-events (given-up b))
 
 -- a tally fed events, one after the other
 unfoldable pub fed : Tally → List Event → Tally

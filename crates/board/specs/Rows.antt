@@ -1,7 +1,7 @@
 -- Where each check stands: rows, and the first that fails.
 use mathlib.Core.Bool.{Bool, cond, not, _&&_}
 use mathlib.Core.List.{List, [], _∷_}
-use Prim.Native.Nat.{ℕ, suc, _^_}
+use Prim.Native.Nat.{ℕ, zero, suc, _^_}
 use lib.Dec.{leb, eqb}
 use Rattle.board.specs.Limits.{longest-laxity, most-in-slot, places-held, last-slot}
 
@@ -36,3 +36,8 @@ close-rows slot lent =
     3 if eqb slot (suc last-slot)
     ∷ 8 if not (leb places-held lent)
     ∷ []
+
+-- what a call lists or counts: nothing, where it is refused
+unfoldable pub unless-refused : {A : Type 0} → (refusal : ℕ) → List A → List A
+unless-refused zero l = l
+unless-refused (suc n) l = []

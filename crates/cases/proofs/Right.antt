@@ -50,7 +50,7 @@ unfoldable pub answer : Board → Call → List ℕ
 answer b (admit t w g) = let r = admitted b t w g in r .refusal ∷ r .last .0 ∷ []
 answer b (close lent) = let r = Close.closed b lent in r .refusal ∷ r .ticket ∷ r .grade ∷ r .listed ∷ []
 
--- a closing's answer, and the jobs given up in the board's order
+-- a closing's answer, and the jobs given up in the order in which they are listed
 unfoldable pub close-right : Board → List ℕ → List (List ℕ) → Bool
 close-right b a gone =
     same (answer b (close places-held)) a

@@ -4,3 +4,4 @@ pub mod Agreement
 pub mod Drawing
 pub mod Tallying
 pub mod Unbeaten
+pub mod GivenUpInOrder

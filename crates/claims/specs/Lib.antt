@@ -3,3 +3,4 @@ pub mod DayBook
 pub mod OurPlan
 pub mod Demand3
 pub mod Balance
+pub mod GivenUpInOrder

@@ -11,7 +11,7 @@ use borrow.Author.Tests.{leb-true, eqb-true, eq-eqb, lt-ltb, le-ltb, lt-leb, not
 use Rattle.lists.specs.Select.{every, one-if}
 use Rattle.lists.proofs.Tests.{never, and-left, and-right, and-intro}
 use Rattle.lists.proofs.Members.{every-append}
-use Rattle.lists.proofs.Counting.{count-length, count-select, count-mem, count-split}
+use Rattle.lists.proofs.Counting.{count-length, count-mem, count-split}
 use Rattle.rule.specs.Job.{Job}
 use Rattle.rule.specs.Bake.{expires, ticket-of, grade-of}
 use Rattle.rule.proofs.NoRegret.Within.{baked-none}
@@ -30,6 +30,7 @@ use Rattle.board.proofs.Soundness.Apart.{facts}
 use Rattle.board.proofs.Tallies.CountAt.{grades-counted}
 use Rattle.board.proofs.Calls.Rows.{row-passed}
 use Rattle.board.proofs.Calls.SoundAfter.{close-going, admitted-sound, closed-sound}
+use Rattle.board.proofs.Calls.GivenUp.{given-up-length}
 use Rattle.board.proofs.Calls.SoundAfterOpening.{opened-board, opened-sound}
 use Rattle.claims.proofs.Tallying.Fates.{baked-held}
 use Rattle.lines.specs.Bytes.{Bytes, lines}
@@ -99,19 +100,19 @@ module _ (b : Board) (h : Short b) where
 
   -- so no more are given up than a board holds beside it
   few-given-up : length (given-up b) ≤ most-given-up
-  unfolding given-up given-up-with bakes ticket-of most-given-up places-held
+  unfolding given-up bakes ticket-of most-given-up places-held
   few-given-up = go (bakes b) refl
     where
       go : (o : Option Job) → bakes b ≡ o → length (given-up-with b (ticket-of (bakes b))) ≤ most-given-up
       go none e =
           let empty : held b ≡ [] = baked-none (slot-of b) (b .depth) (held b) e in
-          omega (arith, count-select (expires (slot-of b) (ticket-of (bakes b))) (held b), count-length (expires (slot-of b) (ticket-of (bakes b))) (held b), ap length empty)
+          omega (arith, given-up-length b (ticket-of (bakes b)), count-length (expires (slot-of b) (ticket-of (bakes b))) (held b), ap length empty)
       go (some q) e =
           let t = ticket-of (bakes b) in
           let own : eqb (q .ticket) t ≡ true = eq-eqb (q .ticket) t (sym (ap ticket-of e)) in
           omega (
             arith,
-            count-select (expires (slot-of b) t) (held b),
+            given-up-length b t,
             count-split (expires (slot-of b) t) (λ (r : Job). eqb (r .ticket) t) (λ (r : Job). expires (slot-of b) t r || eqb (r .ticket) t) (held b) (λ r m. apart (slot-of b) t r),
             count-length (λ (r : Job). expires (slot-of b) t r || eqb (r .ticket) t) (held b),
             count-mem (λ (r : Job). eqb (r .ticket) t) (baked-held b known q e) own,
@@ -203,7 +204,7 @@ module _ (b : Board) (h : Short b) where
   unfolding closed closed-with moved-on-with thinned
   after-close = record { is-sound = closed-sound b places-held (h .is-sound); highest = go (close-number b places-held) }
     where
-      go : (n : ℕ) → closed-with n b (bakes b) .board .highest < 4_294_967_296
+      go : (n : ℕ) → closed-with n b (bakes b) (length (given-up b)) .board .highest < 4_294_967_296
       go zero = h .highest
       go (suc n) = h .highest
 
@@ -216,7 +217,7 @@ module _ (b : Board) (h : Short b) where
       record {
         closing = subst
             (λ (r : Closed). (fits (record { slot = slot-of b; ticket = r .ticket; grade = r .grade; given-up = length (map named (given-up b)) }) && true) ≡ true)
-            (sym (ap (λ n. closed-with n b (bakes b)) zero-number))
+            (sym (ap (λ n. closed-with n b (bakes b) (length (given-up b))) zero-number))
             (and-intro _ true (closing-fits b h zero-number) refl);
         after = after-close;
       })

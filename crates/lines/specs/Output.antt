@@ -11,7 +11,7 @@ use Rattle.lines.specs.Bytes.{Bytes, letter-A, letter-B, letter-D, lette
 use Rattle.lines.specs.Printing.{printed}
 use Rattle.lines.specs.Session.{Named, Closing, Answer, a-refusal, an-opening, an-admitting, a-closing, run}
 
--- 'for each of those `G,slot,ticket,grade`'. The lines are here in the board's order; 01 leaves the order open, and compares them as a set.
+-- 'for each of those `G,slot,ticket,grade`', in the order of the jobs given up: 02, Four, 'G lines are compared line by line'
 unfoldable pub printed-given-up : (slot : ℕ) → List Named → Bytes
 printed-given-up k [] = []
 printed-given-up k (r ∷ A) = printed letter-G (k ∷ r .ticket ∷ r .grade ∷ []) ++ printed-given-up k A

@@ -15,6 +15,7 @@ use Rattle.board.specs.Open.{opened}
 use Rattle.claims.specs.Calls.{Call, board-after}
 use Rattle.claims.specs.Demand3.{Demand3}
 use Rattle.claims.specs.Balance.{Balance}
+use Rattle.claims.specs.GivenUpInOrder.{GivenUpInOrder}
 use Rattle.lines.specs.Machine.{ByteByByte}
 use Rattle.lines.specs.NeverMet.{NeverMet}
 use Rattle.lines.specs.BlankGrade.{BlankGrade}
@@ -25,6 +26,8 @@ pub record Theorems : Type 0 where
   pub demand3 : Demand3
   -- over every run from an empty board: admitted = baked + given up + on the board, for each grade, and no event is refused
   pub balance : Balance
+  -- the jobs given up are listed by grade from best to worst, within a grade by rising ticket, each once and no other
+  pub given-up-in-order : GivenUpInOrder
   -- a rule has level j exactly when it keeps to the no-regret sets of order j; ours has every level
   pub characterised : (S : Setting) → Characterised S
   -- a rule that idles with a job in date is no rival

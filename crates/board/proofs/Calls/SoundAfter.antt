@@ -3,6 +3,7 @@ use mathlib.Core.Path.{_≡_, refl, sym, ap, _∙_}
 use mathlib.Core.Bool.{true, not}
 use Prim.Native.Nat.{ℕ, zero, suc, _+_}
 use native.Mathlib.Omega.{arith}
+use lib.ListN.{length}
 use lib.Dec.{ltb, eqb}
 use borrow.Author.Tests.{ltb-true}
 use Rattle.lists.proofs.Tests.{and-left}
@@ -13,7 +14,7 @@ use Rattle.board.specs.Rows.{first-given, admit-rows, close-rows}
 use Rattle.board.specs.Held.{slot-of, in-slot}
 use Rattle.board.specs.Sound.{sound}
 use Rattle.board.specs.Admit.{admit-number, with-job, admitted-if, admitted}
-use Rattle.board.specs.Close.{close-number, moved-on-with, closed-with, bakes, closed}
+use Rattle.board.specs.Close.{close-number, moved-on-with, closed-with, bakes, given-up, closed}
 use Rattle.board.proofs.Soundness.Apart.{facts}
 use Rattle.board.proofs.Soundness.Together.{all-sound}
 use Rattle.board.proofs.Calls.Rows.{row-skipped, admits, closes}
@@ -60,6 +61,6 @@ pub closed-sound : (b : Board) (lent : ℕ) → sound b ≡ true → sound (clos
 unfolding closed closed-with
 closed-sound b lent s = go (close-number b lent) refl
   where
-    go : (n : ℕ) → close-number b lent ≡ n → sound (closed-with n b (bakes b) .board) ≡ true
+    go : (n : ℕ) → close-number b lent ≡ n → sound (closed-with n b (bakes b) (length (given-up b)) .board) ≡ true
     go zero e = moved-on-sound b (ticket-of (bakes b)) s (close-going b lent s e)
     go (suc n) e = s

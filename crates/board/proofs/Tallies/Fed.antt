@@ -9,7 +9,8 @@ use Rattle.lists.specs.Select.{every}
 use Rattle.lists.proofs.Tests.{and-right}
 use Rattle.board.specs.declared.Tally.{Tally}
 use Rattle.board.specs.Tally.{counted}
-use Rattle.board.specs.Events.{Event, unless-refused, fed, event-numbers, all-taken}
+use Rattle.board.specs.Rows.{unless-refused}
+use Rattle.board.specs.Events.{Event, fed, event-numbers, all-taken}
 
 -- a call that is let through has its events
 pub let-through : (n : ℕ) (es : List Event) → n ≡ 0 → unless-refused n es ≡ es

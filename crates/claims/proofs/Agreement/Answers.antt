@@ -6,6 +6,7 @@ use mathlib.Core.List.{List}
 use Prim.Native.Nat.{ℕ, zero, suc}
 use native.Mathlib.Omega.{arith}
 use lib.Dec.{eqb}
+use lib.ListN.{length}
 use borrow.Author.Tests.{ne-eqb}
 use Rattle.rule.specs.Job.{Job}
 use Rattle.rule.specs.Bake.{ticket-of}
@@ -14,7 +15,7 @@ use Rattle.board.specs.declared.Board.{Board}
 use Rattle.board.specs.Rows.{first-given, admit-rows, close-rows}
 use Rattle.board.specs.Held.{slot-of, held, in-slot}
 use Rattle.board.specs.Admit.{admit-number, with-job, admitted-if, admitted}
-use Rattle.board.specs.Close.{close-number, bakes, moved-on-with, closed-with, closed}
+use Rattle.board.specs.Close.{close-number, bakes, given-up, moved-on-with, closed-with, closed}
 use Rattle.board.proofs.Soundness.Facts.{admitted-in}
 use Rattle.board.proofs.Calls.SoundAfter.{admit-number-sound, close-number-sound}
 use Rattle.claims.specs.Calls.{admit, close}
@@ -77,8 +78,8 @@ module _ {d s : ℕ} {b : Board} {B : Book} {left : List Job} (a : Agree d s b B
           inl (record {
             through = ap (λ n. eqb n 0) (same-close lent ∙ e);
             number = e;
-            board = ap (λ n. closed-with n b (bakes b) .board) e;
-            ticket = ap (λ n. closed-with n b (bakes b) .ticket) e;
+            board = ap (λ n. closed-with n b (bakes b) (length (given-up b)) .board) e;
+            ticket = ap (λ n. closed-with n b (bakes b) (length (given-up b)) .ticket) e;
           })
       go (suc n) e =
-          inr (record { stopped = ap (λ n. eqb n 0) (same-close lent ∙ e) ∙ ne-eqb (suc n) 0 (omega arith); board = ap (λ n. closed-with n b (bakes b) .board) e })
+          inr (record { stopped = ap (λ n. eqb n 0) (same-close lent ∙ e) ∙ ne-eqb (suc n) 0 (omega arith); board = ap (λ n. closed-with n b (bakes b) (length (given-up b)) .board) e })

@@ -14,7 +14,8 @@ use Rattle.board.specs.Limits.{most-in-slot, last-slot}
 use Rattle.board.specs.Held.{slot-of, held, in-slot}
 use Rattle.board.specs.Sound.{sound}
 use Rattle.board.specs.Admit.{admit-number, with-job, admitted-if, admitted}
-use Rattle.board.specs.Events.{admitted-kind, baked-kind, given-up-kind, event, unless-refused, admit-events}
+use Rattle.board.specs.Rows.{unless-refused}
+use Rattle.board.specs.Events.{admitted-kind, baked-kind, given-up-kind, event, admit-events}
 use Rattle.board.proofs.Soundness.Facts.{SoundFacts, admitted-in}
 use Rattle.board.proofs.Soundness.Apart.{facts}
 use Rattle.board.proofs.Soundness.FreePlace.{room}

@@ -7,24 +7,26 @@ use mathlib.Core.Option.{Option, none, some}
 use Prim.Native.Nat.{ℕ, zero, suc, _+_, _≤_, _<_}
 use native.Mathlib.Omega.{arith}
 use lib.Dec.{eqb}
+use lib.ListN.{length}
 use borrow.Author.Tests.{ne-eqb}
 use Rattle.lists.specs.Select.{one-if, how-many}
 use Rattle.lists.proofs.Tests.{cond-false}
-use Rattle.lists.proofs.Members.{select-mem}
 use Rattle.lists.proofs.Counting.{count-append, count-map, count-none}
 use Rattle.rule.specs.Job.{Job}
-use Rattle.rule.specs.Bake.{expires, ticket-of, grade-of}
+use Rattle.rule.specs.Bake.{ticket-of, grade-of}
 use Rattle.board.specs.declared.Board.{Board}
 use Rattle.board.specs.Limits.{most-in-slot, last-slot}
 use Rattle.board.specs.Held.{slot-of, held, in-slot, thinned}
 use Rattle.board.specs.Sound.{sound}
-use Rattle.board.specs.Close.{close-number, given-up-with, bakes, given-up, moved-on-with, closed-with, closed}
+use Rattle.board.specs.Close.{close-number, bakes, given-up, moved-on-with, closed-with, closed}
 use Rattle.board.specs.Tally.{tally-grades}
-use Rattle.board.specs.Events.{admitted-kind, baked-kind, given-up-kind, Event, event, unless-refused, baked-events, given-up-events, closing-events, close-events}
+use Rattle.board.specs.Rows.{unless-refused}
+use Rattle.board.specs.Events.{admitted-kind, baked-kind, given-up-kind, Event, event, baked-events, given-up-events, close-events}
 use Rattle.lists.proofs.Spread.{sharing}
 use Rattle.board.proofs.Soundness.Facts.{SoundFacts}
 use Rattle.board.proofs.Soundness.Apart.{facts}
 use Rattle.board.proofs.Calls.SoundAfter.{moved-on-sound, close-going}
+use Rattle.board.proofs.Calls.GivenUp.{given-up-mem}
 use Rattle.board.proofs.Tallies.CountAt.{Cell, grades-counted}
 use Rattle.board.proofs.Tallies.Kinds.{same-cell, baked-cell, given-up-cell}
 use Rattle.board.proofs.Tallies.FedCounts.{times}
@@ -93,7 +95,7 @@ module _ (b : Board) (s : sound b ≡ true) where
       omega (arith, known .to-last, sharing (λ (r : Job). r .admitted) (held b) most-in-slot (known .intake) (slot-of b))
 
   cells : (e : Event) → List·Memᴰ e events → Cell (e .kind) (e .grade)
-  unfolding job-events given-up-events given-up given-up-with
+  unfolding job-events given-up-events given-up
   cells e m = go (List·Memᴰ·append-cases (job-events (bakes b)) m)
     where
       from : (o : Option Job) → bakes b ≡ o → List·Memᴰ e (job-events o) → Cell (e .kind) (e .grade)
@@ -104,7 +106,7 @@ module _ (b : Board) (s : sound b ≡ true) where
       go (inl i) = from (bakes b) refl i
       go (inr i) =
           let r = Memᴰ·of-map _ (given-up b) i in
-          same-cell (sym (r .2)) (given-up-cell (fits (r .0) (select-mem (expires (slot-of b) (ticket-of (bakes b))) (r .0) (held b) (r .1) .0)))
+          same-cell (sym (r .2)) (given-up-cell (fits (r .0) (given-up-mem b (ticket-of (bakes b)) (r .0) (r .1) .0)))
 
   taken : (lent : ℕ) → close-number b lent ≡ 0 → Leads b events (moved-on-with b (ticket-of (bakes b)))
   taken lent e =
@@ -116,9 +118,10 @@ module _ (b : Board) (s : sound b ≡ true) where
       }
 
 pub close-leads : (b : Board) (lent : ℕ) → sound b ≡ true → Leads b (close-events b lent) (closed b lent .board)
-unfolding close-events closing-events unless-refused closed closed-with
+unfolding close-events unless-refused closed closed-with
 close-leads b lent s = go (close-number b lent) refl
   where
-    go : (n : ℕ) → close-number b lent ≡ n → Leads b (closing-events (closed-with n b (bakes b)) (given-up b)) (closed-with n b (bakes b) .board)
+    go : (n : ℕ) → close-number b lent ≡ n → let r = closed-with n b (bakes b) (length (given-up b)) in
+        Leads b (unless-refused (r .refusal) (baked-events (r .ticket) (r .grade) ++ given-up-events (given-up b))) (r .board)
     go zero e = subst (λ es. Leads b (es ++ given-up-events (given-up b)) (moved-on-with b (ticket-of (bakes b)))) (sym (named b s (bakes b) refl)) (taken b s lent e)
     go (suc n) e = leads-nowhere b s

@@ -16,10 +16,11 @@ use Rattle.rule.specs.Job.{Job}
 use Rattle.rule.specs.Bake.{expires, stays, ticket-of}
 use Rattle.board.specs.declared.Board.{Board}
 use Rattle.board.specs.Held.{slot-of, held}
-use Rattle.board.specs.Close.{given-up-with, bakes, given-up, moved-on-with}
+use Rattle.board.specs.Close.{bakes, given-up, moved-on-with}
 use Rattle.lists.proofs.Once.{count-once}
 use Rattle.board.proofs.Soundness.Facts.{SoundFacts}
 use Rattle.board.proofs.Calls.HeldAfter.{held-moved-on}
+use Rattle.board.proofs.Calls.GivenUp.{given-up-count}
 use Rattle.claims.specs.Balance.{on-board}
 use Rattle.rule.proofs.NoRegret.Within.{baked-mem}
 
@@ -66,9 +67,9 @@ module _ (b : Board) (known : SoundFacts b) where
         ∙ count-once (λ (r : Job). r .ticket) of-grade 0 (known .tickets-rise) (baked-held q e)
 
     -- those given up, and those that stay
-    given-up-count : how-many of-grade (given-up b) ≡ how-many (λ (r : Job). expires (slot-of b) (ticket-of (bakes b)) r && of-grade r) (held b)
-    unfolding given-up given-up-with
-    given-up-count = count-in-selection of-grade (expires (slot-of b) (ticket-of (bakes b))) (held b)
+    gone-count : how-many of-grade (given-up b) ≡ how-many (λ (r : Job). expires (slot-of b) (ticket-of (bakes b)) r && of-grade r) (held b)
+    unfolding given-up
+    gone-count = given-up-count b (ticket-of (bakes b)) of-grade
 
     staying-count : on-board g (moved-on-with b (ticket-of (bakes b))) ≡ how-many (λ (r : Job). stays (slot-of b) (ticket-of (bakes b)) r && of-grade r) (held b)
     unfolding on-board of-grade
@@ -80,7 +81,7 @@ module _ (b : Board) (known : SoundFacts b) where
     fates =
         omega (
           arith,
-          given-up-count,
+          gone-count,
           staying-count,
           count-split (λ (r : Job). eqb (r .ticket) (ticket-of (bakes b)) && of-grade r) (λ (r : Job). not (eqb (r .ticket) (ticket-of (bakes b))) && of-grade r) of-grade (held b)
               (λ r m. baked-or-not (eqb (r .ticket) (ticket-of (bakes b))) (of-grade r)),

@@ -7,6 +7,7 @@ use mathlib.Core.Option.{Option, none, some}
 use Prim.Native.Nat.{ℕ, zero, suc, _≤_, _<_}
 use lib.Dec.{leb, ltb, eqb}
 use native.Mathlib.Omega.{arith}
+use lib.ListN.{length}
 use borrow.Author.Tests.{leb-true, ltb-false, eqb-true, ne-eqb}
 use Rattle.lists.specs.Select.{every}
 use Rattle.lists.proofs.Tests.{never, and-left, and-right, or-cases}
@@ -17,7 +18,7 @@ use Rattle.board.specs.Held.{slot-of, in-slot}
 use Rattle.board.specs.Sound.{sound}
 use Rattle.board.specs.Open.{opened-if, opened}
 use Rattle.board.specs.Admit.{admit-number, admitted-if, admitted}
-use Rattle.board.specs.Close.{bakes, close-number, closed-with, closed}
+use Rattle.board.specs.Close.{bakes, given-up, close-number, closed-with, closed}
 use Rattle.board.proofs.Calls.Rows.{row-passed}
 use Rattle.board.proofs.Calls.SoundAfter.{admit-number-sound, close-number-sound}
 use Rattle.lines.specs.Bytes.{Bytes}
@@ -63,7 +64,7 @@ pub closed-number : (b : Board) (lent : ℕ) → closed b lent .refusal ≡ clos
 unfolding closed closed-with
 closed-number b lent = go (close-number b lent)
   where
-    go : (n : ℕ) → closed-with n b (bakes b) .refusal ≡ n
+    go : (n : ℕ) → closed-with n b (bakes b) (length (given-up b)) .refusal ≡ n
     go zero = refl
     go (suc n) = refl
 

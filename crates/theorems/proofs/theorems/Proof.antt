@@ -8,6 +8,7 @@ use Rattle.board.proofs.Calls.SoundAfterOpening.{opened-sound, opened-count}
 use Rattle.claims.proofs.SoundKept.{sound-kept}
 use Rattle.claims.proofs.Unbeaten.{demand3}
 use Rattle.claims.proofs.Tallying.InBalance.{balance}
+use Rattle.claims.proofs.GivenUpInOrder.{given-up-in-order}
 use Rattle.lines.proofs.ByteByByte.{byte-by-byte}
 use Rattle.lines.proofs.NeverMet.{never-met}
 use Rattle.lines.proofs.NeverMet.MayMeet.{opened-shallow}
@@ -21,6 +22,7 @@ returns c =
     record {
       demand3 = demand3;
       balance = balance;
+      given-up-in-order = given-up-in-order;
       characterised = characterised;
       never-idle = never-idle;
       least-last-level0 = least-last-level0;
