@@ -14,6 +14,7 @@ use Rattle.rule.specs.Bake.{sooner, soonest-of, soonest, ticket-of, grade-of}
 use Rattle.rule.proofs.Earliest.{Sooner, sooner-true, sooner-false, sooner-trans}
 use Rattle.board.specs.declared.Place.{Place}
 use Rattle.board.specs.Held.{job-in, blank}
+use Rattle.search.specs.Inner.Found.{last-of, PlaceOf}
 
 -- with the same last slot the tickets decide, else the last slots
 pub same-last : (r q : Job) → r .last ≡ q .last → leb (r .ticket) (q .ticket) ≡ sooner r q
@@ -97,12 +98,7 @@ found-more {L} {best} p (a-job e f) t = go (test (sooner (job-in best) (job-in p
     go (inl s) = simp (old, s) (a-job (more ∙ simp s) f)
     go (inr s) = simp (old, s) (a-job (more ∙ simp s) t)
 
-pub found-ticket : {L : List Job} {best : Place} → Found L best → best .ticket ≡ ticket-of (soonest L)
-unfolding ticket-of job-in
-found-ticket (no-job e f) = simp (e, f)
-found-ticket (a-job e f) = simp e
-
-pub found-grade : {L : List Job} {best : Place} → Found L best → best .grade ≡ grade-of (soonest L)
-unfolding grade-of job-in
-found-grade (no-job e f) = simp (e, f)
-found-grade (a-job e f) = simp e
+pub found-place : {L : List Job} {best : Place} → Found L best → PlaceOf (soonest L) best
+unfolding ticket-of grade-of last-of job-in
+found-place (no-job e f) = record { ticket = simp (e, f); grade = simp (e, f); last = simp (e, f) }
+found-place (a-job e f) = record { ticket = simp e; grade = simp e; last = simp e }

@@ -31,11 +31,12 @@ pub(crate) fn column_of(counts: &[u16; CELLS], start: u8, left: u8, k: usize) ->
 {
     let n = width(left);
     let first = k * Tally::GRADES + (start as usize) * n;
+    let end = first + n;
     let mut total: u32 = 0;
-    let mut i: usize = 0;
-    while i < n {
-        total += wide(counts[first + i]);
-        i += 1;
+    let mut j = first;
+    while j < end {
+        total += wide(counts[j]);
+        j += 1;
     }
     total
 }

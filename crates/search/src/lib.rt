@@ -3,34 +3,45 @@
 // there; on a sound board these are all.
 // A start of a grade is the number of its first bits, `start`, with `left` bits left: the grades that start so are the 2 ^ left from start * 2 ^ left
 // on. All of them are below (start + 1) * 2 ^ left, which is at most 2 ^ depth.
-ghost use mathlib.Core.Path.{_≡_};
-ghost use Rattle.rule.specs.Bake.{ticket-of, grade-of};
-ghost use Rattle.search.specs.Inner.Seen.{bakes-seen};
+ghost use Rattle.search.specs.Inner.Found.{BakedSeen};
 use board::Board;
+use board::Slot;
+use counts::CELLS;
 
 mod columns;
 mod descent;
 mod soonest;
 mod tight;
 
-// The job that a slot bakes: its ticket and grade, both 0 where no job is seen.
+// The job that a slot bakes: its ticket, grade and last slot, all 0 where no job is seen; and the counts by which it was found.
 pub struct Baked {
     pub ticket: u32,
     pub grade: u8,
+    pub last: Slot,
+    pub counts: [u16; CELLS],
 }
 
 // The job that the slot bakes: the soonest of the tight set of the grade that the search ends at, the no-regret set.
 pub fn bake(b: Board) -> Baked
-    ensures { λ r. ⌜ (r .ticket ≡ ticket-of (bakes-seen b)) × (r .grade ≡ grade-of (bakes-seen b)) ⌝ }
+    ensures { λ r. ⌜ BakedSeen b r ⌝ }
 {
+    let counts = counts::counts_of(b);
     if Board::DEEPEST < (b.depth as u32) {
         return Baked {
             ticket: 0,
             grade: 0,
+            last: Slot(0),
+            counts,
         };
     }
-    let counts = counts::counts_of(b);
     let grade = descent::descend(&counts, 0, b.depth);
     let best = tight::tight(&counts, grade, 0);
-    soonest::soonest(b, grade, best.laxity)
+    let p = soonest::soonest(b, grade, best.laxity);
+    let last = p.last;
+    Baked {
+        ticket: p.ticket,
+        grade: p.grade,
+        last,
+        counts,
+    }
 }

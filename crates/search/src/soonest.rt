@@ -3,11 +3,11 @@ ghost use mathlib.Core.Path.{_≡_};
 ghost use mathlib.Core.Bool.{not, _&&_, _||_, cond};
 ghost use lib.Dec.{eqb};
 ghost use Rattle.lists.specs.Select.{select};
-ghost use Rattle.rule.specs.Bake.{sooner as is-sooner, soonest as soonest-in, ticket-of, grade-of};
+ghost use Rattle.rule.specs.Bake.{sooner as is-sooner, soonest as soonest-in};
 ghost use Rattle.board.specs.Held.{slot-of, job-in};
 ghost use Rattle.counts.specs.Seen.{seen-job, seen};
 ghost use Rattle.search.specs.Inner.Seen.{of-grade-within};
-use crate::Baked;
+ghost use Rattle.search.specs.Inner.Found.{PlaceOf};
 use board::Board;
 use board::Laxity;
 use board::Place;
@@ -49,10 +49,9 @@ fn is_within(now: Slot, depth: u8, p: Place, grade: u8, l: Laxity) -> bool
     false
 }
 
-// The soonest of the jobs seen that have this grade and laxity `l` or less.
-pub(crate) fn soonest(b: Board, grade: u8, l: Laxity) -> Baked
-    ensures { λ r. ⌜ r .ticket ≡ ticket-of (soonest-in (select (of-grade-within (slot-of b) grade (l .0)) (seen b))) ⌝ }
-    ensures { λ r. ⌜ r .grade ≡ grade-of (soonest-in (select (of-grade-within (slot-of b) grade (l .0)) (seen b))) ⌝ }
+// The place of the soonest of the jobs seen that have this grade and laxity `l` or less; blank where there is none.
+pub(crate) fn soonest(b: Board, grade: u8, l: Laxity) -> Place
+    ensures { λ r. ⌜ PlaceOf (soonest-in (select (of-grade-within (slot-of b) grade (l .0)) (seen b))) r ⌝ }
 {
     let count = lists::lesser(b.count, Board::PLACES);
     let now = b.slot;
@@ -71,8 +70,5 @@ pub(crate) fn soonest(b: Board, grade: u8, l: Laxity) -> Baked
         }
         i += 1;
     }
-    Baked {
-        ticket: best.ticket,
-        grade: best.grade,
-    }
+    best
 }

@@ -9,6 +9,7 @@ use Rattle.board.specs.Limits.{deepest}
 use Rattle.board.specs.Held.{slot-of}
 use Rattle.counts.specs.Seen.{seen}
 use Rattle.search.specs.Inner.Seen.{bakes-seen}
+use Rattle.search.specs.Inner.Found.{last-of}
 use Rattle.search.specs.Inner.Counts.{CountsOf}
 use Rattle.search.specs.Inner.Start.{Start}
 use Rattle.search.proofs.Seeing.{counts-seen, bakes-none, of-grade-starts}
@@ -16,22 +17,25 @@ use Rattle.search.proofs.NextBit.{bakes-found}
 use Rattle.search.proofs.bake.Statement.{statement}
 use Rattle.search.proofs.bake.Tie as tie
 
+counts-of-requires : tie.Need-counts-of-requires
+counts-of-requires c κs = search needs
+
 cast-if1 : tie.Need-cast-if1
 cast-if1 c = search needs
 
 returns : tie.Need-returns
-unfolding deepest ticket-of grade-of
-returns c = let e = bakes-none (c .before .before .args .b) (omega arith) in (sym (ap ticket-of e), sym (ap grade-of e))
-
-counts-of-requires : tie.Need-counts-of-requires
-counts-of-requires c κs = search needs
+unfolding deepest ticket-of grade-of last-of
+returns c =
+    let k = c .before .before in
+    let e = bakes-none (k .before .args .b) (omega arith) in
+    record { ticket = sym (ap ticket-of e); grade = sym (ap grade-of e); last = sym (ap last-of e); counts = k .counts-of .ensures }
 
 -- the counts are those of the jobs seen, at a depth in its range
-counted : (c : tie.After-counts-of) → let b = c .before .before .before .args .b in CountsOf (slot-of b) (b .depth) (seen b) (c .counts-of .result)
+counted : (c : tie.Else1) → let k = c .before .before in let b = k .before .args .b in CountsOf (slot-of b) (b .depth) (seen b) (k .counts-of .result)
 unfolding deepest
-counted c = counts-seen _ (omega arith) (c .counts-of .ensures)
+counted c = counts-seen _ (omega arith) (c .before .before .counts-of .ensures)
 
-few : (c : tie.After-counts-of) → 2 ^ c .before .before .before .args .b .depth ≤ 2 ^ deepest
+few : (c : tie.Else1) → 2 ^ c .before .before .before .args .b .depth ≤ 2 ^ deepest
 few c = pow-mono (counted c .shallow)
 
 descend-requires : tie.Need-descend-requires
@@ -46,24 +50,25 @@ soonest-requires c κs = search needs
 returns-2 : tie.Need-returns-2
 unfolding bakes-seen
 returns-2 c =
-    let t = c .before .tight in
-    let d = c .before .before .before .descend in
-    let k = c .before .before .before .before .before in
+    let p = c .before .soonest .ensures in
+    let t = c .before .before .tight in
+    let d = c .before .before .before .before .descend in
+    let k = c .before .before .before .before .before .before in
     let b = k .before .before .before .args .b in
     let C = counted k in
     let fits : Start (b .depth) (d .result) 0 = omega (arith, d .ensures .1) in
     let e =
     ap soonest (of-grade-starts b (d .result) (t .result .laxity .0) fits)
     ∙ bakes-found (slot-of b) (b .depth) (seen b) (d .result) (t .result .laxity .0) (d .ensures .0 _ _ _ (omega arith) C) (t .ensures .0 _ _ _ fits C .0) in
-    (c .soonest .ensures .0 ∙ ap ticket-of e, c .soonest .ensures .1 ∙ ap grade-of e)
+    record { ticket = p .ticket ∙ ap ticket-of e; grade = p .grade ∙ ap grade-of e; last = p .last ∙ ap last-of e; counts = k .before .before .counts-of .ensures }
 
 pub bake-spec : {M : Type 1} → statement M
 bake-spec =
     tie.close
     (tie.spec
+    counts-of-requires
     cast-if1
     returns
-    counts-of-requires
     descend-requires
     tight-requires
     soonest-requires

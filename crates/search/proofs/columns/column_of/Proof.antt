@@ -1,6 +1,6 @@
 -- `search::columns::column_of`: the sum of the cells passed. Assumes nothing.
 use Prim.Native.Nat.{ℕ, _+_, _-_, _*_, _^_, _≤_, _<_}
-use mathlib.Core.Path.{_≡_, refl, ap, _∙_}
+use mathlib.Core.Path.{_≡_, ap, _∙_}
 use mathlib.Core.List.{List}
 use native.Mathlib.Omega.{arith}
 use borrow.Author.Needs.{needs}
@@ -19,10 +19,11 @@ abbrev cell-from : List ℕ → (start left k : ℕ) → ℕ → ℕ
 cell-from t start left k i = getD t (cell k (start * 2 ^ left) + i) 0
 
 abbrev Inv-loop : tie.InvT-loop
-Inv-loop counts start left k n first total₀ i₀ total i = (i ≤ n) × (total ≤ (2 ^ 16 - 1) * i) × (total ≡ sum (cell-from counts start left k) i)
+Inv-loop counts start left k n first end total₀ j₀ total j =
+    (first ≤ j) × (j ≤ end) × (total ≤ (2 ^ 16 - 1) * (j - first)) × (total ≡ sum (cell-from counts start left k) (j - first))
 
 abbrev μ-loop : tie.MeasureT-loop
-μ-loop counts start left k n first total₀ i₀ total i = n - i
+μ-loop counts start left k n first end total₀ j₀ total j = end - j
 
 width-requires : tie.Need-width-requires Inv-loop μ-loop
 unfolding deepest
@@ -48,13 +49,17 @@ add-first : tie.Need-add-first Inv-loop μ-loop
 unfolding longest-laxity tally-grades
 add-first c = omega (arith, inside c)
 
+add-end : tie.Need-add-end Inv-loop μ-loop
+unfolding longest-laxity tally-grades
+add-end c = omega (arith, inside c)
+
 loop-holds : tie.Need-loop-holds Inv-loop μ-loop
 unfolding sum
-loop-holds c = (omega arith, omega arith, refl)
-
-add-wide : tie.Need-add-wide Inv-loop μ-loop
-unfolding longest-laxity tally-grades
-add-wide c = omega (arith, inside (c .before .before))
+loop-holds c =
+    let f = cell-from (now (c .before .args .counts)) (c .before .args .start) (c .before .args .left) (c .before .args .k) in
+    let at = c .before .args .k * 8 + c .before .args .start * c .width .result in
+    let none : 0 ≡ at - at = omega arith in
+    (omega arith, omega arith, omega arith, ap (sum f) none)
 
 mul-wide : tie.Need-mul-wide Inv-loop μ-loop
 unfolding longest-laxity tally-grades
@@ -71,23 +76,29 @@ add-total : tie.Need-add-total Inv-loop μ-loop
 unfolding tally-grades
 add-total c = omega (arith, inside (c .before .before .before .before))
 
-add-i : tie.Need-add-i Inv-loop μ-loop
-add-i c = search needs
+add-j : tie.Need-add-j Inv-loop μ-loop
+unfolding longest-laxity tally-grades
+add-j c = omega (arith, inside (c .before .before .before .before))
 
 loop-less : tie.Need-loop-less Inv-loop μ-loop
 loop-less c = search needs
+
+-- how far from the first cell
+abbrev passed : (l : tie.At-loop Inv-loop μ-loop) → ℕ
+passed l = l .loop .j - (l .before .before .args .k * tally-grades + l .before .before .args .start * l .before .width .result)
 
 loop-again : tie.Need-loop-again Inv-loop μ-loop
 unfolding cell tally-grades
 loop-again c =
     let l = c .before .before .before in
-    let s = l .before .before in
-    let a = s .args in
+    let a = l .before .before .args in
     let t = now (a .counts) in
-    let e : a .k * tally-grades + a .start * l .before .width .result + l .loop .i ≡ cell (a .k) (a .start * 2 ^ a .left) + l .loop .i =
-    omega (arith, ap (λ n. a .start * n) (l .before .width .ensures)) in
-    let v : c .wide .result ≡ cell-from t (a .start) (a .left) (a .k) (l .loop .i) = c .wide .ensures .0 ∙ ap (λ j. getD t j 0) e in
-    (omega arith, omega (arith, c .wide .ensures .1), omega (arith, v, sum-more (cell-from t (a .start) (a .left) (a .k)) (l .loop .i), l .loop .inv .2))
+    let i = passed l in
+    let e : l .loop .j ≡ cell (a .k) (a .start * 2 ^ a .left) + i = omega (arith, ap (λ n. a .start * n) (l .before .width .ensures)) in
+    let v : c .wide .result ≡ cell-from t (a .start) (a .left) (a .k) i = c .wide .ensures .0 ∙ ap (λ j. getD t j 0) e in
+    let f = cell-from t (a .start) (a .left) (a .k) in
+    let next : i + 1 ≡ l .loop .j + 1 - (a .k * tally-grades + a .start * l .before .width .result) = omega arith in
+    (omega arith, omega arith, omega (arith, c .wide .ensures .1), omega (arith, v, sum-more f i, l .loop .inv .3, ap (sum f) next))
 
 returns : tie.Need-returns Inv-loop μ-loop
 unfolding column tally-grades deepest
@@ -95,8 +106,8 @@ returns c =
     let w = c .before .before in
     let a = w .before .args in
     let l = c .before .loop in
-    let e : l .i ≡ 2 ^ a .left = omega (arith, w .width .ensures) in
-    (l .inv .2 ∙ ap (sum (cell-from (now (a .counts)) (a .start) (a .left) (a .k))) e, omega (arith, inside w))
+    let e : passed (c .before) ≡ 2 ^ a .left = omega (arith, w .width .ensures) in
+    (l .inv .3 ∙ ap (sum (cell-from (now (a .counts)) (a .start) (a .left) (a .k))) e, omega (arith, inside w))
 
 pub column-of-spec : {M : Type 1} → statement M
 column-of-spec =
@@ -108,13 +119,13 @@ column-of-spec =
     mul-first
     mul-first-2
     add-first
+    add-end
     loop-holds
-    add-wide
     mul-wide
     element-copy-out-wide
     wide-requires
     add-total
-    add-i
+    add-j
     loop-less
     loop-again
     returns)

@@ -1,13 +1,13 @@
 -- `search::soonest::soonest`: best is the place of the soonest of the jobs passed that are picked. Assumes nothing.
 use Prim.Native.Nat.{_-_, _≤_, _<_}
-use mathlib.Core.Path.{_≡_, sym, ap, _∙_}
+use mathlib.Core.Path.{_≡_, sym, _∙_, subst}
 use mathlib.Core.Bool.{true, false}
 use mathlib.Core.Logic.{⊎-elim}
 use native.Mathlib.Omega.{arith}
 use borrow.Author.Needs.{needs}
 use lib.ListN.{length}
 use Rattle.lists.proofs.Tests.{and-left}
-use Rattle.rule.specs.Bake.{soonest, ticket-of, grade-of}
+use Rattle.rule.specs.Bake.{soonest}
 use Rattle.board.specs.Limits.{places-held}
 use Rattle.board.specs.Held.{slot-of, job-in}
 use Rattle.board.proofs.Known.{all-places}
@@ -15,8 +15,9 @@ use Rattle.board.proofs.Walk.{place-at, jobs-passed, jobs-none, jobs-same, jobs
 use Rattle.counts.specs.Seen.{seen-job}
 use Rattle.counts.proofs.JobSeen.{seen-facts}
 use Rattle.search.specs.Inner.Seen.{of-grade-within}
+use Rattle.search.specs.Inner.Found.{PlaceOf}
 use Rattle.search.proofs.Seeing.{picked, picked-held}
-use Rattle.search.proofs.Earlier.{Found, found-none, found-more, found-ticket, found-grade}
+use Rattle.search.proofs.Earlier.{Found, found-none, found-more, found-place}
 use Rattle.search.proofs.soonest.soonest.Statement.{statement}
 use Rattle.search.proofs.soonest.soonest.Tie as tie
 
@@ -79,8 +80,7 @@ returns c =
     let a = s .args in
     let b = a .t1 in
     let e = jobs-all b _ (c .before .loop .i) (omega (arith, all-places b _ (s .good .0), k .before .lesser .ensures)) ∙ picked-held b (a .grade) (a .l .0) in
-    let f = c .before .loop .inv .1 in
-    (found-ticket f ∙ ap (λ L. ticket-of (soonest L)) e, found-grade f ∙ ap (λ L. grade-of (soonest L)) e)
+    subst (λ L. PlaceOf (soonest L) (c .before .loop .best)) e (found-place (c .before .loop .inv .1))
 
 pub soonest-spec : {M : Type 1} → statement M
 soonest-spec =
