@@ -8,9 +8,10 @@ use lib.ListN.{length, getD, take, drop, set, length-set, length-map, List·getD
 use lib.Seq.{take-suc, take-length, drop-cons, set-at, append-snoc, length-take-le}
 use Rattle.rule.specs.Job.{Job}
 use Rattle.board.specs.Held.{slot-number}
+use Rattle.board.specs.Lent.{written-over}
 use Rattle.boundary.specs.declared.entries.Entry.{Entry}
 use Rattle.boundary.specs.declared.entries.Parts.{Parts}
-use Rattle.boundary.specs.Listed.{entry-of}
+use Rattle.boundary.specs.Entries.{entry-of}
 use Rattle.boundary.specs.Inner.Parts.{entry-at, written}
 
 pub written-length : (ys : List Entry) (p : Parts) (n : ℕ) → length (written ys p n) ≡ length ys
@@ -68,6 +69,7 @@ module _ (X : List Job) (p : Parts) (ts : Begins (λ (r : Job). r .ticket) X (p 
         ∙ sym (append-snoc front e (drop (suc i) ys))
         ∙ ap (_++ drop (suc i) ys) (sym (map-append entry-of (take i X) (getD X i no-job ∷ [])) ∙ ap (map entry-of) (sym (take-suc X i no-job h)))
 
-    -- all of them: the jobs in that order, and then what the list had
-    pub written-all : written ys p (length X) ≡ map entry-of X ++ drop (length X) ys
+    -- all of them
+    pub written-all : written ys p (length X) ≡ written-over entry-of X ys
+    unfolding written-over
     written-all = written-first (length X) (omega arith) ∙ ap (λ k. map entry-of k ++ drop (length X) ys) (take-length X)

@@ -3,8 +3,9 @@ ghost use mathlib.Core.Path.{_≡_};
 ghost use Prim.Native.Nat.{_<_};
 ghost use lib.ListN.{length};
 ghost use Rattle.board.specs.Limits.{places-held};
-ghost use Rattle.board.specs.Close.{given-up, closed};
-ghost use Rattle.boundary.specs.Listed.{EntriesAfter};
+ghost use Rattle.board.specs.Close.{closed, listing};
+ghost use Rattle.board.specs.Lent.{written-over};
+ghost use Rattle.boundary.specs.Entries.{entry-of};
 ghost use Rattle.boundary.specs.Inner.Parts.{entry-at, Gathered};
 use board::Board;
 use board::Closed;
@@ -70,7 +71,8 @@ fn entry_at(p: Parts, i: usize) -> Entry
 #[no_mangle]
 pub extern "C" fn oven_close_into(b: Board, list: &mut [Entry]) -> Closed
     ensures answer { λ r. ⌜ r ≡ closed b (length (now (list .entry))) ⌝ }
-    ensures lent { λ r. ⌜ EntriesAfter (r .refusal) (given-up b) (now (list .entry)) (now (list .exit)) ⌝ }
+    ensures list { λ r.
+        ⌜ now (list .exit) ≡ written-over entry-of (listing b (length (now (list .entry)))) (now (list .entry)) ⌝ }
 {
     let closed = closing(b, list.len());
     let count = closed.count;

@@ -6,11 +6,12 @@ use lib.ListN.{length, getD, set}
 use Rattle.board.specs.declared.Board.{Board}
 use Rattle.board.specs.Limits.{places-held}
 use Rattle.board.specs.Held.{slot-number}
-use Rattle.board.specs.Close.{given-up, closed}
+use Rattle.board.specs.Close.{closed, listing}
+use Rattle.board.specs.Lent.{written-over}
 use Rattle.boundary.specs.declared.entries.Entry.{Entry}
 use Rattle.boundary.specs.declared.entries.Parts.{Parts}
 use Rattle.boundary.specs.declared.entries.ClosedParts.{ClosedParts}
-use Rattle.boundary.specs.Listed.{EntriesAfter}
+use Rattle.boundary.specs.Entries.{entry-of}
 
 unfoldable pub entry-at : Parts → ℕ → Entry
 entry-at p i = record { ticket = getD (p .tickets) i 0; grade = getD (p .grades) i 0; admitted = slot-number (getD (p .slots) i 0) }
@@ -20,9 +21,9 @@ unfoldable pub written : List Entry → Parts → ℕ → List Entry
 written ys p zero = ys
 written ys p (suc n) = set (written ys p n) n (entry-at p n)
 
--- a closing of the board b for a list of so many entries: it has room for the jobs given up, and holds them once they are written
+-- a closing of the board b for a list of so many entries: it has room for the jobs listed, and holds them once they are written
 pub record Gathered (b : Board) (lent : ℕ) (r : ClosedParts) : Type 0 where
   pub answer : r .answer ≡ closed b lent
   pub few : r .count ≤ places-held
   pub room : r .count ≤ lent
-  pub listed : (ys : List Entry) → length ys ≡ lent → EntriesAfter (r .answer .refusal) (given-up b) ys (written ys (r .parts) (r .count))
+  pub list : (ys : List Entry) → length ys ≡ lent → written ys (r .parts) (r .count) ≡ written-over entry-of (listing b lent) ys

@@ -13,7 +13,7 @@ use Rattle.board.specs.declared.Closed.{Closed}
 use Rattle.board.specs.Limits.{places-held}
 use Rattle.board.specs.Sound.{sound}
 use Rattle.board.specs.Close.{closed, given-up}
-use Rattle.board.specs.Events.{given-up-kind, event, baked-events, given-up-events, closing-events, close-events, fed}
+use Rattle.board.specs.Events.{given-up-kind, event, baked-events, given-up-events, close-events, fed}
 use Rattle.board.specs.Held.{slot-of}
 use Rattle.board.proofs.Calls.SoundAfter.{closed-sound}
 use Rattle.board.proofs.Tallies.Fed.{let-through, fed-append}
@@ -46,7 +46,7 @@ module _ (day : Day) (c : Closed) (e : c ≡ closed (day .board) places-held) wh
 
   all-fed : c .refusal ≡ 0 → (G : List ℕ) → G ≡ map (λ (r : Job). r .grade) (given-up (day .board))
       → fed (fed (day .tally) (baked-events (c .ticket) (c .grade))) (map (event given-up-kind) G) ≡ fed (day .tally) (close-events (day .board) places-held)
-  unfolding close-events closing-events given-up-events
+  unfolding close-events given-up-events
   all-fed h G q =
       let t = day .tally in
       let first = baked-events (c .ticket) (c .grade) in

@@ -48,7 +48,8 @@ use denote.Triple.Clauses.{ensured, lasts}
 use denote.Exit.{yes}
 use Rattle.board.specs.declared.Board.{Board}
 use Rattle.board.specs.Limits.{places-held}
-use Rattle.board.specs.Close.{given-up, closed}
+use Rattle.board.specs.Close.{closed, listing}
+use Rattle.board.specs.Lent.{written-over}
 use Rattle.board.proofs.Board as B
 use Rattle.board.proofs.Board.Laws as B′
 use Rattle.board.proofs.Closed as D
@@ -56,7 +57,7 @@ use Rattle.board.proofs.Closed.Laws as D′
 use Rattle.boundary.specs.declared.entries.Entry.{Entry}
 use Rattle.boundary.specs.declared.entries.ClosedParts.{ClosedParts}
 use Rattle.boundary.specs.declared.entries.Parts.{Parts}
-use Rattle.boundary.specs.Listed.{EntriesAfter}
+use Rattle.boundary.specs.Entries.{entry-of}
 use Rattle.boundary.specs.Inner.Parts.{entry-at, written, Gathered}
 use Rattle.boundary.proofs.Written.{written-length, written-more, written-none, no-entry}
 use Rattle.boundary.proofs.entries.Entry as T
@@ -170,10 +171,9 @@ module _ {M : Type 1} (𝓤 : URA M) (H : Heap 𝓤) (A : Atoms 𝓤) (W : Given
       exits : (zs : List Entry) → zs ≡ ws n → ent 𝓤 (⋆ 𝓤 H A (‵ (fobs γ (codedHoleys T.the-row .code (heres T.the-row zs))) ∷ ‵ (fbor κ (Held T.the-row (length zs) b o γ)) ∷ ‵ (flft κ q) ∷ [])) (Post (av r))
       exits zs z =
           let same : length zs ≡ length ys = ap length z ∙ written-length ys (r .parts) n in
-          let held : EntriesAfter (r .answer .refusal) (given-up bd) ys zs = subst (EntriesAfter (r .answer .refusal) (given-up bd) ys) (sym z) (e .listed ys refl) in
           qed W (‵ (fobs γ (codedHoleys T.the-row .code (heres T.the-row zs))) ∷ ‵ (fbor κ (Held T.the-row (length zs) b o γ)) ∷ ‵ (flft κ q) ∷ []) ∵
           suffices ! _ (ends-at 𝓤 H A ci.ended stayed (ci.clauses 𝓤 H A at-mem run) W (((κ, tt), (q, tt), tt, x, at), tt) (av r) (r .answer) (tt, (zs, tt)) (tt, (same, tt))) $
-          suffices ! _ (assoc∗ 𝓤 (onExit 𝓤 H A ci.ended stayed (κ, tt) (q, tt) at (av r) (r .answer) x (tt, (zs, tt))) (fact 𝓤 (r .answer ≡ closed bd (length ys))) (fact 𝓤 (EntriesAfter (r .answer .refusal) (given-up bd) ys zs))) $ says ! held $ says ! (e .answer) $
+          suffices ! _ (assoc∗ 𝓤 (onExit 𝓤 H A ci.ended stayed (κ, tt) (q, tt) at (av r) (r .answer) x (tt, (zs, tt))) (fact 𝓤 (r .answer ≡ closed bd (length ys))) (fact 𝓤 (zs ≡ written-over entry-of (listing bd (length ys)) ys))) $ says ! (z ∙ e .list ys refl) $ says ! (e .answer) $
           nothing ! $ move ! (3 ∷ 0 ∷ []) $ join ! $
           frame ! $ fjoin ! $ pureI ! (at-slice T.the-row (record { ptr = (b, o); name = γ; now = zs }) (at .1 .0)) (tt, (tt, tt)) (ap (λ (m : ℕ). sliceVal (b, o) m ∷ []) (sym same), subst (Room T.the-row) (sym same) gn) $ fjoin ! $
           nothing ! $ move ! (1 ∷ 0 ∷ []) $ fjoin ! $ owned ! B.the-row (Is B.the-row) ((LL.makes B.the-type B′.the-plain) 𝓤 H A) bd _ ib $ fjoin ! $ frame ! $
