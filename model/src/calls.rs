@@ -22,7 +22,8 @@ pub struct Expired {
 pub struct Closed {
     pub ticket: u32,
     pub grade: u32,
-    /// The racks given up. The paper leaves their order open; here it is the board's.
+    /// The racks given up, 'by grade from best to worst, within a grade by rising
+    /// ticket' (02, Four).
     pub expired: Vec<Expired>,
 }
 
@@ -97,6 +98,7 @@ where
             kept.push(*job);
         }
     }
+    expired.sort_by_key(|job| (job.grade, job.ticket));
     board.put(&kept);
     board.slot += 1;
     let baked = baked.unwrap_or_default();

@@ -31,7 +31,7 @@ pub const BROKEN: [Maker; 18] = [
 ];
 
 /// Each board is sound and meets the bound named exactly.
-pub const BOUNDARY: [Maker; 16] = [
+pub const BOUNDARY: [Maker; 17] = [
     ("depth 0", |draw| with_depth(draw, 0)),
     ("depth 3", |draw| with_depth(draw, DEEPEST)),
     ("slot 1", |draw| in_slot(draw, 1)),
@@ -45,6 +45,10 @@ pub const BOUNDARY: [Maker; 16] = [
     }),
     ("256 racks at the end", |draw| {
         samples::full_board(draw, LAST_SLOT + 1)
+    }),
+    ("256 racks in their last slot", |draw| {
+        let slot = draw.between(LONGEST_LAXITY, LAST_SLOT);
+        samples::all_due(samples::full_board(draw, slot))
     }),
     ("tickets one apart from 1", tickets_from_one),
     ("greatest ticket", greatest_ticket),

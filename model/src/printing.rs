@@ -16,7 +16,7 @@ pub fn done(done: &Done) -> Vec<String> {
     }
 }
 
-/// B: a slot was closed; then G for each rack given up.
+/// B: a slot was closed; then G for each rack given up, in the order of the answer.
 fn closing(slot: u32, closed: &Closed) -> Vec<String> {
     let given_up = closed.expired.len();
     let (ticket, grade) = (closed.ticket, closed.grade);

@@ -111,6 +111,15 @@ pub fn full_board(draw: &mut Draw, slot: u32) -> Board {
     Board::holding(depth, slot, jobs.len() as u32, &jobs)
 }
 
+/// The same board with every rack in its last slot, so that closing gives up all but one.
+pub fn all_due(mut board: Board) -> Board {
+    let held = board.held();
+    for job in &mut board.places[..held] {
+        job.deadline = board.slot;
+    }
+    board
+}
+
 /// How crowded a list of calls is, and which of its calls are refused.
 #[derive(Clone, Copy, Debug)]
 pub struct Crowd {

@@ -82,11 +82,79 @@ fn the_books_end_is_refused() {
 
 #[test]
 fn good_days_are_hardly_refused() {
-    for name in ["ordinary", "ties", "long"] {
+    for name in ["ordinary", "given-up", "ties", "long"] {
         for seed in 0..20 {
             let seen = refusals(&text(&kind(name).input(seed, None)));
             assert_eq!(seen, BTreeSet::new(), "{name} {seed}");
         }
+    }
+}
+
+/// The racks given up by each closing of an output, as ticket and grade.
+fn given_up(output: &str) -> Vec<Vec<(u32, u32)>> {
+    let mut closings = Vec::new();
+    for line in output.lines() {
+        if line.starts_with("B,") {
+            closings.push(Vec::new());
+        }
+        if let Some(rest) = line.strip_prefix("G,") {
+            let words = rest.split(',').map(|word| word.parse().expect("a number"));
+            let figures: Vec<u32> = words.collect();
+            let closing = closings.last_mut().expect("a B line before");
+            closing.push((figures[1], figures[2]));
+        }
+    }
+    closings
+}
+
+#[test]
+fn racks_given_up_stand_by_grade_and_then_by_ticket() {
+    for kind in inputs::KINDS.iter().filter(|kind| kind.name != "end") {
+        for seed in 0..20 {
+            for racks in given_up(&text(&kind.input(seed, None))) {
+                for pair in racks.windows(2) {
+                    let [(ticket, grade), (next, next_grade)] = [pair[0], pair[1]];
+                    let rises = grade < next_grade || (grade == next_grade && ticket < next);
+                    assert!(rises, "{} {seed}: {pair:?}", kind.name);
+                }
+            }
+        }
+    }
+}
+
+/// Whether some rack stands before one of a lower ticket.
+fn tickets_fall(racks: &[(u32, u32)]) -> bool {
+    racks.windows(2).any(|pair| pair[0].0 > pair[1].0)
+}
+
+#[test]
+fn many_racks_of_mixed_grades_are_given_up_at_every_depth() {
+    for (name, many) in [("given-up", 150), ("pages", 255), ("overfull", 6)] {
+        // Grades of a closing: one at depth 0, then up to two, four and eight.
+        let mut seen = BTreeSet::new();
+        for seed in 0..60 {
+            for racks in given_up(&text(&kind(name).input(seed, None))) {
+                let grades: BTreeSet<u32> = racks.iter().map(|rack| rack.1).collect();
+                if racks.len() >= many && (grades.len() == 1 || tickets_fall(&racks)) {
+                    seen.insert(grades.len());
+                }
+            }
+        }
+        let wanted = [1, 2, 4].iter().all(|grades| seen.contains(grades));
+        assert!(
+            wanted && seen.range(5..).next().is_some(),
+            "{name} {seen:?}"
+        );
+    }
+}
+
+#[test]
+fn short_days_give_up_racks_of_several_grades() {
+    for (slots, wanted) in [(1, 50), (3, 100), (4, 100), (20, 200)] {
+        let closings =
+            (0..300).flat_map(|seed| given_up(&text(&kind("given-up").input(seed, Some(slots)))));
+        let fall = closings.filter(|racks| tickets_fall(racks)).count();
+        assert!(fall > wanted, "{slots} slots: {fall}");
     }
 }
 

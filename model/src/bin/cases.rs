@@ -7,8 +7,9 @@
 //! is a sound board and its closing with a list that is long enough. Before the
 //! arrow are the board's depth, slot and highest ticket, then its racks in board
 //! order, JOB being `TICKET ADMITTED LAST GRADE`. After it are ticket and grade
-//! of the rack baked, 0 0 for an empty board, then the racks given up in board
-//! order, EXPIRED being `TICKET ADMITTED GRADE`.
+//! of the rack baked, 0 0 for an empty board, then the racks given up, by grade
+//! from best to worst, within a grade by rising ticket, EXPIRED being `TICKET
+//! ADMITTED GRADE`. On every second board each rack is in its last slot.
 //!
 //! `book DEPTH SLOT HIGHEST ; CALL ; CALL ... => ANSWER ; ANSWER ... | K0 K1 ...`
 //! is a list of calls on an empty board. CALL is `A TICKET WAIT GRADE` or
@@ -44,8 +45,14 @@ fn main() -> io::Result<()> {
     }
     let mut draw = Draw::new(numbers[1]);
     let mut output = BufWriter::new(io::stdout().lock());
-    for _ in 0..numbers[0] {
-        writeln!(output, "{}", board_case(&mut draw))?;
+    for turn in 0..numbers[0] {
+        let board = samples::board(&mut draw, MOST_RACKS);
+        let board = if turn % 2 == 0 {
+            board
+        } else {
+            samples::all_due(board)
+        };
+        writeln!(output, "{}", board_case(board))?;
     }
     for _ in 0..numbers[0] {
         writeln!(output, "{}", book_case(&mut draw))?;
@@ -53,8 +60,7 @@ fn main() -> io::Result<()> {
     output.flush()
 }
 
-fn board_case(draw: &mut Draw) -> String {
-    let mut board = samples::board(draw, MOST_RACKS);
+fn board_case(mut board: Board) -> String {
     let (depth, slot, highest) = (board.depth, board.slot, board.highest_ticket);
     let mut asked = vec![format!("board {depth} {slot} {highest}")];
     for job in board.jobs() {

@@ -1,6 +1,7 @@
 //! Days in which nearly every line is taken.
 
 use super::writer::{admitting, Writer};
+use crate::board::worst_grade;
 use crate::draw::Draw;
 use crate::limits::{DEEPEST, LAST_SLOT, LONGEST_LAXITY, MOST_PER_SLOT};
 
@@ -30,6 +31,40 @@ pub fn overfull(draw: &mut Draw, slots: u32) -> Vec<u8> {
         writer.close();
     }
     writer.bytes
+}
+
+/// Turns of up to 32 slots. Nearly every rack of a turn has the turn's last slot, and
+/// all that are left then but one are given up.
+pub fn given_up(draw: &mut Draw, slots: u32) -> Vec<u8> {
+    let mut writer = opened(draw);
+    let mut left = slots;
+    while left > 0 {
+        let turn = draw.pick(&[1, 2, 4, 12, LONGEST_LAXITY]).min(left);
+        one_turn(draw, &mut writer, turn);
+        left -= turn;
+    }
+    writer.bytes
+}
+
+/// A turn of so many slots. Grades are any, or the better ones come later.
+fn one_turn(draw: &mut Draw, writer: &mut Writer, slots: u32) {
+    let better_later = draw.one_in(3);
+    for left in (1..=slots).rev() {
+        for _ in 0..draw.between(4, MOST_PER_SLOT as u32) {
+            let grade = if better_later {
+                Some(worst_grade(writer.depth) * left / slots)
+            } else {
+                writer.grade(draw)
+            };
+            let laxity = if draw.one_in(9) {
+                draw.between(left, LONGEST_LAXITY)
+            } else {
+                left
+            };
+            writer.admit(draw, laxity, grade);
+        }
+        writer.close();
+    }
 }
 
 /// Two waits and two grades only.

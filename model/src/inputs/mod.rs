@@ -19,7 +19,7 @@ pub struct Kind {
 }
 
 /// All kinds.
-pub const KINDS: [Kind; 12] = [
+pub const KINDS: [Kind; 13] = [
     Kind {
         name: "ordinary",
         about: "ordinary days, about as many racks as slots",
@@ -31,6 +31,12 @@ pub const KINDS: [Kind; 12] = [
         about: "three to ten racks a slot, many of them given up",
         size: 100,
         make: days::overfull,
+    },
+    Kind {
+        name: "given-up",
+        about: "slots that give up many racks of several grades",
+        size: 100,
+        make: days::given_up,
     },
     Kind {
         name: "refusals",

@@ -6,22 +6,28 @@ use model::edges;
 use model::limits::LAST_SLOT;
 use model::samples;
 
-/// The kinds come round one by one: small, any size, full, one clause broken, at a
-/// bound, one field changed, and the end of the book.
+/// The kinds come round one by one: small, any size, full, any size and full with
+/// every rack in its last slot, one clause broken, at a bound, one field changed, and
+/// the end of the book.
 pub fn board(draw: &mut Draw, number: u64) -> Board {
-    let round = (number / 7) as usize;
-    match number % 7 {
+    let round = (number / 9) as usize;
+    match number % 9 {
         0 => samples::board(draw, 7),
         1 => samples::board(draw, 256),
-        2 => {
-            let slot = draw.between(40, LAST_SLOT);
-            samples::full_board(draw, slot)
-        }
-        3 => edges::BROKEN[round % edges::BROKEN.len()].1(draw),
-        4 => edges::BOUNDARY[round % edges::BOUNDARY.len()].1(draw),
-        5 => changed(draw),
+        2 => full(draw),
+        3 => samples::all_due(samples::board(draw, 256)),
+        4 => samples::all_due(full(draw)),
+        5 => edges::BROKEN[round % edges::BROKEN.len()].1(draw),
+        6 => edges::BOUNDARY[round % edges::BOUNDARY.len()].1(draw),
+        7 => changed(draw),
         _ => at_the_end(draw),
     }
+}
+
+/// A board of 256 racks.
+fn full(draw: &mut Draw) -> Board {
+    let slot = draw.between(40, LAST_SLOT);
+    samples::full_board(draw, slot)
 }
 
 /// A sound board with one field changed by a little.

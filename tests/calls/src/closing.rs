@@ -43,18 +43,11 @@ pub fn closes_in_parts(draw: &mut Draw, board: &mut Board, lent: [usize; 3]) -> 
     let shortest = lent.iter().copied().min().unwrap_or(0);
     let answer = calls::close(board, shortest);
     let closed = oven::calls::close(given, &mut tickets, &mut grades, &mut slots);
-    let wanted = given_up(&answer);
-    let gone = wanted.len();
-    let listed = (0..gone).map(|i| Entry {
-        ticket: tickets[i],
-        grade: grades[i],
-        admitted: slots[i],
-    });
+    let after = lent_after(before, &answer);
     answers(&closed, &answer, board)
-        && sorted(listed.collect()) == wanted
-        && tickets[gone..] == part(&before[gone..lent[0]], |entry| entry.ticket)
-        && grades[gone..] == part(&before[gone..lent[1]], |entry| entry.grade)
-        && slots[gone..] == part(&before[gone..lent[2]], |entry| entry.admitted)
+        && tickets == part(&after[..lent[0]], |entry| entry.ticket)
+        && grades == part(&after[..lent[1]], |entry| entry.grade)
+        && slots == part(&after[..lent[2]], |entry| entry.admitted)
 }
 
 /// Closes on a board of the model, and by both layers of the crate on the same with a list of so many entries.
@@ -65,11 +58,8 @@ pub fn closes_into(draw: &mut Draw, board: &mut Board, lent: usize) -> bool {
     let answer = calls::close(board, lent);
     let closed = oven::calls::close_into(given, &mut list);
     let done = ours.close(&mut lent_ours).map_err(|r| (r, r.number()));
-    let wanted = given_up(&answer);
-    let gone = wanted.len();
     answers(&closed, &answer, board)
-        && sorted(list[..gone].to_vec()) == wanted
-        && list[gone..] == before[gone..]
+        && list == lent_after(before, &answer)
         && ours == closed.board
         && lent_ours == list
         && done == comfortable(&answer)
@@ -90,12 +80,15 @@ fn part<T>(entries: &[Entry], of: impl Fn(&Entry) -> T) -> Vec<T> {
     entries.iter().map(of).collect()
 }
 
-fn sorted(mut entries: Vec<Entry>) -> Vec<Entry> {
-    entries.sort_unstable();
-    entries
+/// A lent list afterwards: from its start the racks that the model gives up, in the
+/// model's order, then what it had.
+fn lent_after(mut list: Vec<Entry>, answer: &Result<calls::Closed, Refusal>) -> Vec<Entry> {
+    let given_up = given_up(answer);
+    list[..given_up.len()].copy_from_slice(&given_up);
+    list
 }
 
-/// The racks that the model gives up, sorted.
+/// The racks that the model gives up.
 fn given_up(answer: &Result<calls::Closed, Refusal>) -> Vec<Entry> {
     let expired = answer.iter().flat_map(|closed| &closed.expired);
     let entry = |e: &calls::Expired| Entry {
@@ -103,7 +96,7 @@ fn given_up(answer: &Result<calls::Closed, Refusal>) -> Vec<Entry> {
         grade: e.grade as u8,
         admitted: Slot(e.admitted),
     };
-    sorted(expired.map(entry).collect())
+    expired.map(entry).collect()
 }
 
 /// Whether an answer has the model's number, rack and board.

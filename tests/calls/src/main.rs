@@ -1,8 +1,10 @@
 //! Compares the library's calls, by both layers of its Rust crate, with the model's.
 //!
-//! Random sound boards, full ones, boards damaged in one clause, boundary boards,
-//! short lent lists, tallies at their limits, pages of any count and any figures, and
-//! runs of calls. Its last line is 'N passed, M failed'.
+//! Random sound boards, full ones, boards with every rack in its last slot, boards
+//! damaged in one clause, boundary boards, short lent lists, tallies at their limits,
+//! pages of any count and any figures, and runs of calls. A lent list is compared
+//! entry by entry, the entries past the racks given up too. Its last line is
+//! 'N passed, M failed'.
 
 mod admitting;
 mod boards;

@@ -18,7 +18,7 @@ pub struct Case {
 }
 
 pub fn all() -> Vec<Case> {
-    let mut cases = vec![sample(), board_nine()];
+    let mut cases = vec![sample(), board_nine(), given_up()];
     cases.extend(generated());
     cases.extend(in_pieces());
     cases.extend(at_the_buffer());
@@ -66,6 +66,27 @@ fn board_nine() -> Case {
     expected.extend(b"R,15,12\nR,16,11\nT,0,8,0,0\n");
     Case {
         name: "board 9".to_string(),
+        bytes,
+        piece: 0,
+        expected: Some(expected),
+    }
+}
+
+/// Six racks given up in one slot, 'by grade from best to worst, within a grade by
+/// rising ticket' (02, Four), tickets of one, two and three digits.
+fn given_up() -> Case {
+    let bytes = b"D,3\nA,8,2,6\nA,9,2,1\nA,10,2,6\nA,11,3,0\nA,12,2,1\nB\nA,13,1,7\nA,99,1,6\nA,100,1,1\nA,101,1,0\nB\nB\n".to_vec();
+    let mut expected =
+        b"D,3\nA,8,2\nA,9,2\nA,10,2\nA,11,3\nA,12,2\nB,1,9,1,0\nA,13,2\nA,99,2\nA,100,2\nA,101,2\n"
+            .to_vec();
+    expected.extend(
+        b"B,2,101,0,6\nG,2,12,1\nG,2,100,1\nG,2,8,6\nG,2,10,6\nG,2,99,6\nG,2,13,7\nB,3,11,0,0\n",
+    );
+    expected.extend(
+        b"T,0,2,2,0\nT,1,3,1,2\nT,2,0,0,0\nT,3,0,0,0\nT,4,0,0,0\nT,5,0,0,0\nT,6,3,0,3\nT,7,1,0,1\n",
+    );
+    Case {
+        name: "racks given up".to_string(),
         bytes,
         piece: 0,
         expected: Some(expected),

@@ -29,7 +29,7 @@ fn board_differs(binary: &str, case: &Case) -> Option<usize> {
 /// The first line at which the sheet's program prints something else.
 fn sheet_differs(binary: &str, case: &Case) -> Option<usize> {
     let printed = run::program(binary, &case.bytes, case.piece);
-    compare::exact(&printed, &sheet(&case.bytes))
+    compare::difference(&printed, &sheet(&case.bytes))
 }
 
 fn main() {

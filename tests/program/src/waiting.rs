@@ -61,13 +61,13 @@ pub fn steps(binary: &str) -> Vec<(&'static str, Option<usize>)> {
     for step in day {
         started.write(step.bytes.as_bytes());
         let expected = &whole[..step.pages * PAGE];
-        wrong = wrong.or_else(|| compare::exact(started.printed(expected.len()), expected));
+        wrong = wrong.or_else(|| compare::difference(started.printed(expected.len()), expected));
         answers.push((step.name, wrong));
     }
     let printed = started.end();
     answers.push((
         "the end",
-        wrong.or_else(|| compare::exact(&printed, &whole)),
+        wrong.or_else(|| compare::difference(&printed, &whole)),
     ));
     answers
 }
