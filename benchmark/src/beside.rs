@@ -3,7 +3,7 @@
 use crate::calls::PASSES;
 use crate::days::{Day, Ran};
 use crate::tables::{growth, head, of, quotient, row, time};
-use crate::timed::{keep_least, Timed};
+use crate::timed::{keep_least, other_lists, Timed};
 use std::io;
 use std::process::{Command, Stdio};
 use std::time::Duration;
@@ -20,11 +20,21 @@ const COLUMNS: [&str; 8] = [
     "other of sorting",
 ];
 
-/// The benchmarks are this source linked with either library. Programs: this checkout's, the other's, the model's, the one that sorts.
+/// The benchmarks are this source linked with either library. Programs: this checkout's, the other's, the model's, the one that sorts. This checkout's
+/// lists and outputs are the model's; of the other's it is said in how many places they are not.
 pub fn run(this: &str, other: &str, programs: &[&str]) -> io::Result<()> {
-    calls(this, other)?;
+    let closings = calls(this, other)?;
     head(&[&COLUMNS[..], &["a slot, this", "a slot, other"]].concat());
-    Day::each(programs, |day, ran| row(&cells(day, ran)))
+    let mut days = 0;
+    Day::each(programs, |day, ran| {
+        let [this, other, model, sorting] = [0, 1, 2, 3].map(|side| ran[side].printed);
+        let same = this == model && this == sorting;
+        assert!(same, "{}: not all print the same", day.name());
+        days += u32::from(other != this);
+        row(&cells(day, ran));
+    })?;
+    println!("\nThe other checkout has other lists in {closings} closings, and prints something else on {days} days.");
+    Ok(())
 }
 
 /// One pass of the calls, by a process of its own.
@@ -38,10 +48,13 @@ fn pass(benchmark: &str) -> io::Result<Vec<Timed>> {
     Ok(printed.lines().map(Timed::read).collect())
 }
 
-fn calls(this: &str, other: &str) -> io::Result<()> {
+/// Hands back in how many closings the other checkout's lists are not the model's.
+fn calls(this: &str, other: &str) -> io::Result<usize> {
     let (mut here, mut there) = (Vec::new(), Vec::new());
     for _ in 0..PASSES {
-        keep_least(&mut here, pass(this)?);
+        let pass_here = pass(this)?;
+        assert_eq!(0, other_lists(&pass_here), "closings with other lists");
+        keep_least(&mut here, pass_here);
         keep_least(&mut there, pass(other)?);
     }
     head(&COLUMNS);
@@ -66,7 +79,7 @@ fn calls(this: &str, other: &str) -> io::Result<()> {
         ("model", &here, 1),
         ("sorting", &here, 2),
     ]);
-    Ok(())
+    Ok(other_lists(&there))
 }
 
 /// The model and the program that sorts are the same in both processes, so their times should be.

@@ -3,7 +3,7 @@
 use crate::convert;
 use crate::timed::Timed;
 use model::board::{Board, Job};
-use model::calls::{self, Closed};
+use model::calls::{self, Closed, Expired};
 use model::draw::Draw;
 use oven::{Slot, Wait};
 use std::hint::black_box;
@@ -110,8 +110,8 @@ fn close_by_model(board: &mut Board) -> Closed {
     calls::close(board, 256).expect("a sound board")
 }
 
-/// All sides close the board, bake the same rack and give up as many.
-fn check(board: &Board) {
+/// All sides close the board, bake the same rack and give up as many. Tells whether our side's lists are the model's, in its order.
+fn check(board: &Board) -> bool {
     let (mut tickets, mut grades, mut slots) = ([0; 256], [0; 256], [Slot(0); 256]);
     let given = convert::board(board);
     let ours = oven::calls::close(given, &mut tickets, &mut grades, &mut slots);
@@ -119,12 +119,18 @@ fn check(board: &Board) {
     assert_eq!(model, close_by_sorting(&mut board.clone()));
     assert_eq!((0, model.ticket), (ours.refusal, ours.ticket));
     assert_eq!(model.expired.len(), ours.given_up as usize);
+    let listed = (0..model.expired.len()).map(|i| Expired {
+        ticket: tickets[i],
+        grade: grades[i].into(),
+        admitted: slots[i].0,
+    });
+    listed.eq(model.expired.iter().copied())
 }
 
 /// Closes a board; the lent lists are cleared once, before all calls.
 fn closing(held: u32, shape: Shape) -> Timed {
     let board = board(held, shape);
-    check(&board);
+    let same_lists = check(&board);
     let given = convert::board(&board);
     let (mut tickets, mut grades, mut slots) = ([0; 256], [0; 256], [Slot(0); 256]);
     let times = least(&mut [
@@ -141,6 +147,7 @@ fn closing(held: u32, shape: Shape) -> Timed {
     ]);
     Timed {
         name: format!("closing, {held} racks, {}", shape.name()),
+        same_lists,
         times,
     }
 }
@@ -157,6 +164,7 @@ fn admitting() -> Timed {
     ]);
     Timed {
         name: "admitting on 255 racks, waits and grades spread".into(),
+        same_lists: true,
         times,
     }
 }
@@ -165,6 +173,7 @@ fn admitting() -> Timed {
 fn opening() -> Timed {
     Timed {
         name: "opening: a board made and handed over".into(),
+        same_lists: true,
         times: least(&mut [&mut || keep(oven::calls::open(black_box(3)))]),
     }
 }
@@ -175,6 +184,7 @@ fn soundness() -> Timed {
     assert!(oven::calls::sound(given));
     Timed {
         name: "soundness of 256 racks".into(),
+        same_lists: true,
         times: least(&mut [&mut || keep(oven::calls::sound(black_box(given)))]),
     }
 }

@@ -39,11 +39,12 @@ const DAYS: [Day; 7] = [
     day(1_000_000, 8, 1, 3),
 ];
 
-/// A program's shortest run, and what was last seen of it.
+/// A program's shortest run, what was last seen of it, and a number that stands for what it printed.
 #[derive(Clone, Copy)]
 pub struct Ran {
     pub time: Duration,
     pub seen: Seen,
+    pub printed: u64,
 }
 
 impl Day {
@@ -79,23 +80,22 @@ impl Day {
         fs::remove_dir_all(&folder)
     }
 
-    /// Runs the programs in turn, so many times over; the least time of each counts.
+    /// Runs the programs in turn, so many times over; the least time of each counts. Each prints the same every time.
     fn run(&self, programs: &[&str], folder: &Path) -> io::Result<Vec<Ran>> {
         let (input, output) = (folder.join("day.txt"), folder.join("day.out"));
         fs::write(&input, self.lines())?;
         let mut best: Vec<Option<Ran>> = vec![None; programs.len()];
-        let mut expected = None;
         for _ in 0..self.rounds {
             for (program, least) in programs.iter().zip(&mut best) {
                 let ran = once(program, &input, &output)?;
-                if least.map_or(true, |least| ran.time < least.time) {
-                    *least = Some(ran);
-                }
-                let printed = fingerprint(&output)?;
+                let least = least.get_or_insert(ran);
                 assert!(
-                    *expected.get_or_insert(printed) == printed,
-                    "{program} prints something else"
+                    least.printed == ran.printed,
+                    "{program} does not print the same again"
                 );
+                if ran.time < least.time {
+                    *least = ran;
+                }
             }
         }
         Ok(best.into_iter().flatten().collect())
@@ -140,9 +140,10 @@ fn named(text: &str, name: &str) -> Option<u64> {
 
 /// One run of a program, timed from its start to its end.
 fn once(program: &str, input: &Path, output: &Path) -> io::Result<Ran> {
-    let (input, output) = (File::open(input)?, File::create(output)?);
     let mut command = Command::new(program);
-    command.stdin(input).stdout(output);
+    command
+        .stdin(File::open(input)?)
+        .stdout(File::create(output)?);
     let began = Instant::now();
     let mut child = command.spawn()?;
     let mut seen = Seen::default();
@@ -150,28 +151,24 @@ fn once(program: &str, input: &Path, output: &Path) -> io::Result<Ran> {
         if let Some(ended) = child.try_wait()? {
             let time = began.elapsed();
             assert!(ended.success(), "{program} failed");
-            return Ok(Ran { time, seen });
+            return Ok(Ran {
+                time,
+                seen,
+                printed: fingerprint(output)?,
+            });
         }
         seen = Seen::of(child.id()).unwrap_or(seen);
         thread::sleep(Duration::from_millis(1));
     }
 }
 
-/// A number that stands for the lines of an output, those of the racks given up in one slot sorted, since their order is left open.
+/// A number that stands for all bytes of an output.
 fn fingerprint(output: &Path) -> io::Result<u64> {
-    let (mut hasher, mut given_up) = (DefaultHasher::new(), Vec::new());
-    for line in BufReader::new(File::open(output)?).lines() {
-        let line = line?;
-        if line.starts_with('G') {
-            given_up.push(line);
-            continue;
-        }
-        given_up.sort_unstable();
-        given_up.hash(&mut hasher);
-        given_up.clear();
+    let mut hasher = DefaultHasher::new();
+    let (mut output, mut line) = (BufReader::new(File::open(output)?), Vec::new());
+    while output.read_until(b'\n', &mut line)? > 0 {
         line.hash(&mut hasher);
+        line.clear();
     }
-    given_up.sort_unstable();
-    given_up.hash(&mut hasher);
     Ok(hasher.finish())
 }

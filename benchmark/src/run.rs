@@ -3,7 +3,7 @@
 use crate::calls::{self, PASSES};
 use crate::days::{Day, Ran};
 use crate::tables::{growth, head, of, row, time};
-use crate::timed::{keep_least, Timed};
+use crate::timed::{keep_least, other_lists, Timed};
 use std::io;
 
 /// Programs: ours, the model's, the one that sorts.
@@ -20,12 +20,20 @@ pub fn run(programs: &[&str]) -> io::Result<()> {
         "peak memory of each",
         "our reads, writes, time in the system",
     ]);
-    Day::each(programs, |day, ran| row(&cells(day, ran)))
+    Day::each(programs, |day, ran| {
+        let same = ran.iter().all(|other| other.printed == ran[0].printed);
+        assert!(same, "{}: not all print the same", day.name());
+        row(&cells(day, ran));
+    })
 }
 
 fn calls() {
     let mut best = Vec::new();
-    (0..PASSES).for_each(|_| keep_least(&mut best, calls::pass()));
+    for _ in 0..PASSES {
+        let pass = calls::pass();
+        assert_eq!(0, other_lists(&pass), "closings with other lists");
+        keep_least(&mut best, pass);
+    }
     head(&[
         "what",
         "ours",
@@ -34,7 +42,7 @@ fn calls() {
         "of the model",
         "of sorting",
     ]);
-    for Timed { name, times } in &best {
+    for Timed { name, times, .. } in &best {
         let [ours, model, sorting] = [0, 1, 2].map(|side| times.get(side));
         row(&[
             name.clone(),

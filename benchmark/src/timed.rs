@@ -6,14 +6,17 @@ use std::time::Duration;
 #[derive(Debug)]
 pub struct Timed {
     pub name: String,
+    /// Whether the lists that our side was lent are the model's, entry by entry; so too where none is lent.
+    pub same_lists: bool,
     pub times: Vec<Duration>,
 }
 
 impl Timed {
-    /// The name and the times in nanoseconds, with tabs between.
+    /// The name, whether the lists are the same, and the times in nanoseconds, with tabs between.
     pub fn line(&self) -> String {
         let times = self.times.iter().map(|time| time.as_nanos().to_string());
-        let words: Vec<String> = [self.name.clone()].into_iter().chain(times).collect();
+        let head = [self.name.clone(), self.same_lists.to_string()];
+        let words: Vec<String> = head.into_iter().chain(times).collect();
         words.join("\t")
     }
 
@@ -21,11 +24,21 @@ impl Timed {
     pub fn read(line: &str) -> Timed {
         let mut words = line.split('\t');
         let name = words.next().unwrap_or_default().into();
+        let same_lists = words.next() == Some("true");
         let times = words
             .map(|word| Duration::from_nanos(word.parse().expect("nanoseconds")))
             .collect();
-        Timed { name, times }
+        Timed {
+            name,
+            same_lists,
+            times,
+        }
     }
+}
+
+/// In how many of these calls our side's lists are not the model's.
+pub fn other_lists(calls: &[Timed]) -> usize {
+    calls.iter().filter(|call| !call.same_lists).count()
 }
 
 /// Keeps the lesser times of two passes. Where there was no pass yet, all are kept.
@@ -37,6 +50,7 @@ pub fn keep_least(best: &mut Vec<Timed>, pass: Vec<Timed>) {
     assert_eq!(best.len(), pass.len());
     for (least, timed) in best.iter_mut().zip(pass) {
         assert_eq!(least.name, timed.name);
+        assert_eq!(least.same_lists, timed.same_lists, "{}", timed.name);
         for (least, time) in least.times.iter_mut().zip(timed.times) {
             *least = (*least).min(time);
         }

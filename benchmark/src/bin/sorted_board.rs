@@ -102,17 +102,21 @@ impl Day {
         Ok(written)
     }
 
-    /// Writes a B line, and a G line for each rack given up.
+    /// Writes a B line, and a G line for each rack given up, by grade from best to worst, within a grade by rising ticket.
     fn write_closed(&self, slot: u32, baked: Job, output: &mut impl Write) -> io::Result<()> {
-        let given_up = || self.jobs.iter().filter(|job| job.deadline == slot);
+        let given_up = self.jobs.iter().filter(|job| job.deadline == slot);
+        let mut given_up: Vec<&Job> = given_up.collect();
+        given_up.sort_unstable_by_key(|job| (job.grade, job.ticket));
         writeln!(
             output,
             "B,{slot},{},{},{}",
             baked.ticket,
             baked.grade,
-            given_up().count()
+            given_up.len()
         )?;
-        given_up().try_for_each(|job| writeln!(output, "G,{slot},{},{}", job.ticket, job.grade))
+        given_up
+            .iter()
+            .try_for_each(|job| writeln!(output, "G,{slot},{},{}", job.ticket, job.grade))
     }
 }
 
