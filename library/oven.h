@@ -164,8 +164,9 @@ oven_admitted oven_admit(oven_board board, uint32_t ticket, oven_wait wait, uint
 
 /*
  * Closes the present slot: answers the rack to bake, gives up every other rack whose last slot it is, and moves to the next slot.
- * The racks given up are written from the start of the list that the caller lends, each once, in any order; the entries after them
- * keep what they had. Refuses with 2, 3 or 8; board and list are then as they were. `list` points to `length` entries.
+ * The racks given up are written from the start of the list that the caller lends, by grade from best to worst, within a grade by
+ * rising ticket; the entries after them keep what they had. Refuses with 2, 3 or 8; board and list are then as they were. `list`
+ * points to `length` entries.
  */
 #define OVEN_STACK_CLOSE_INTO 49152
 oven_closed oven_close_into(oven_board board, oven_entry *list, size_t length);

@@ -103,8 +103,8 @@ impl Board {
         AdmitRefusal::from_number(answer.refusal).map(|()| answer.last)
     }
 
-    /// Closes the present slot and moves to the next. The racks given up are written from the start of the list, each once, in any
-    /// order; later entries keep what they had. A refusal leaves board and list as they were.
+    /// Closes the present slot and moves to the next. The racks given up are written from the start of the list, by grade from best
+    /// to worst, within a grade by rising ticket; later entries keep what they had. A refusal leaves board and list as they were.
     pub fn close(&mut self, list: &mut [Entry]) -> Result<Closed, CloseRefusal> {
         let answer = calls::close_into(*self, list);
         *self = answer.board;
