@@ -28,7 +28,8 @@ written-over entry A l = map entry A ++ drop (length A) l
 -- the list with the jobs A
 unfoldable pub lent-with : List Job → Lent → Lent
 lent-with A l =
-    lent-of (written-over (λ (r : Job). r .ticket) A (l .tickets)) (written-over (λ (r : Job). r .grade) A (l .grades)) (written-over (λ (r : Job). r .admitted) A (l .slots))
+    lent-of (written-over (λ (r : Job). r .ticket) A (l .tickets)) (written-over (λ (r : Job). r .grade) A (l .grades))
+    (written-over (λ (r : Job). r .admitted) A (l .slots))
 
 -- What a closing of the board b promises, with its list as it was before and is after: the answer, and every entry of the list.
 pub record ClosedInto (b : Board) (before after : Lent) (r : Closed) : Type 0 where

@@ -38,4 +38,5 @@ closed-in-limits b lent = closed-with (close-number-in-limits b lent) b (bakes-s
 pub record ClosedInLimits (b : Board) (before after : Lent) (r : Closed) : Type 0 where
   pub answer : r ≡ closed-in-limits b (entry-count before)
   pub list : after
-      ≡ lent-laid (bounds-seen b) (unless-refused (close-number-in-limits b (entry-count before)) (select (expires (slot-of b) (ticket-of (bakes-seen b))) (held b))) before
+      ≡ lent-laid (bounds-seen b)
+      (unless-refused (close-number-in-limits b (entry-count before)) (select (expires (slot-of b) (ticket-of (bakes-seen b))) (held b))) before
