@@ -1,6 +1,7 @@
 pub mod Rows
 pub mod HeldAfter
 pub mod Listing
+pub mod Shortfall
 pub mod SoundAfterAdmitting
 pub mod SoundAfterThinning
 pub mod SoundAfter

@@ -8,6 +8,7 @@ use lib.ListN.{length}
 use Rattle.lists.specs.Select.{select}
 use Rattle.lists.specs.Sorted.{sorted}
 use Rattle.rule.specs.Job.{Job}
+use Rattle.rule.specs.Shortfall.{shortfall}
 use Rattle.rule.specs.Bake.{baked, expires, stays, ticket-of, grade-of}
 use Rattle.board.specs.declared.Board.{Board}
 use Rattle.board.specs.declared.Closed.{Closed}
@@ -32,11 +33,16 @@ given-up-with b t = sorted listed-before (select (expires (slot-of b) t) (held b
 unfoldable pub moved-on-with : Board → (t : ℕ) → Board
 moved-on-with b t = thinned b (slot-of b + 1) (stays (slot-of b) t)
 
--- the answer with the job o baked and so many jobs listed, by the number of the refusal; 'a refusal hands back the board [..] unchanged; whatever else
--- the answer holds besides the number is then 0'
-unfoldable pub closed-with : (number : ℕ) → Board → Option Job → (listed : ℕ) → Closed
-closed-with zero b o n = record { refusal = 0; ticket = ticket-of o; grade = grade-of o; listed = n; board = moved-on-with b (ticket-of o) }
-closed-with (suc k) b o n = record { refusal = suc k; ticket = 0; grade = 0; listed = 0; board = b }
+-- 02, Five: 'The closing's answer carries the shortfall', that of all jobs 'on the board before the bake', whatever their grades
+unfoldable pub shortfall-of : Board → ℕ
+shortfall-of b = shortfall (slot-of b) (held b)
+
+-- the answer with the job o baked, so many jobs listed and this shortfall, by the number of the refusal; 'a refusal hands back the board [..] unchanged;
+-- whatever else the answer holds besides the number is then 0'
+unfoldable pub closed-with : (number : ℕ) → Board → Option Job → (listed short : ℕ) → Closed
+closed-with zero b o n s =
+    record { refusal = 0; ticket = ticket-of o; grade = grade-of o; listed = n; shortfall = s; board = moved-on-with b (ticket-of o) }
+closed-with (suc k) b o n s = record { refusal = suc k; ticket = 0; grade = 0; listed = 0; shortfall = 0; board = b }
 
 -- 'Closing a slot bakes that rack': the rule's
 unfoldable pub bakes : Board → Option Job
@@ -45,8 +51,11 @@ bakes b = baked (slot-of b) (b .depth) (held b)
 unfoldable pub given-up : Board → List Job
 given-up b = given-up-with b (ticket-of (bakes b))
 
+unfoldable pub closed-if : (number : ℕ) → Board → Closed
+closed-if n b = closed-with n b (bakes b) (length (given-up b)) (shortfall-of b)
+
 unfoldable pub closed : Board → (lent : ℕ) → Closed
-closed b lent = closed-with (close-number b lent) b (bakes b) (length (given-up b))
+closed b lent = closed-if (close-number b lent) b
 
 -- the jobs that it lists
 unfoldable pub listing : Board → (lent : ℕ) → List Job

@@ -101,13 +101,14 @@ pub struct Admitted {
     pub board: Board,
 }
 
-// What closing answers: the job baked, ticket 0 for 'empty', and how many jobs are given up.
+// What closing answers: the job baked, ticket 0 for 'empty', how many jobs are given up, and the shortfall of the board before the bake.
 #[repr(C)]
 pub struct Closed {
     pub refusal: u8,
     pub ticket: u32,
     pub grade: u8,
     pub listed: u32,
+    pub shortfall: u32,
     pub board: Board,
 }
 

@@ -5,3 +5,4 @@ pub mod Drawing
 pub mod Tallying
 pub mod Unbeaten
 pub mod GivenUpInOrder
+pub mod Shortfall

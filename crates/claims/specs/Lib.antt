@@ -4,3 +4,4 @@ pub mod OurPlan
 pub mod Demand3
 pub mod Balance
 pub mod GivenUpInOrder
+pub mod Shortfall

@@ -23,7 +23,7 @@ use Rattle.board.specs.Held.{slot-of, job-in, used, held, thinned}
 use Rattle.board.specs.Sound.{sound}
 use Rattle.board.specs.Open.{empty-board, opened}
 use Rattle.board.specs.Admit.{admit-number, with-job, admitted-if, admitted}
-use Rattle.board.specs.Close.{close-number, given-up-with, bakes, given-up, moved-on-with, closed-with, closed}
+use Rattle.board.specs.Close.{close-number, given-up-with, bakes, given-up, moved-on-with, closed-with, closed-if, closed}
 use Rattle.board.specs.Tally.{tally-grades}
 use Rattle.board.proofs.Soundness.Facts.{SoundFacts}
 use Rattle.board.proofs.Soundness.Apart.{facts}
@@ -201,15 +201,15 @@ module _ (b : Board) (h : Short b) where
       (fit-refused (some b) (admitted b t w g .refusal) h)
 
   after-close : Short (closed b places-held .board)
-  unfolding closed closed-with moved-on-with thinned
+  unfolding closed closed-if closed-with moved-on-with thinned
   after-close = record { is-sound = closed-sound b places-held (h .is-sound); highest = go (close-number b places-held) }
     where
-      go : (n : ℕ) → closed-with n b (bakes b) (length (given-up b)) .board .highest < 4_294_967_296
+      go : (n : ℕ) → closed-if n b .board .highest < 4_294_967_296
       go zero = h .highest
       go (suc n) = h .highest
 
   fit-close : Fit (step-close b)
-  unfolding step-close figures-in figures-of every InBounds closed closed-with
+  unfolding step-close figures-in figures-of every InBounds closed closed-if closed-with
   fit-close =
       either (closed b places-held .refusal) _ _
       (λ e.
@@ -217,7 +217,7 @@ module _ (b : Board) (h : Short b) where
       record {
         closing = subst
             (λ (r : Closed). (fits (record { slot = slot-of b; ticket = r .ticket; grade = r .grade; given-up = length (map named (given-up b)) }) && true) ≡ true)
-            (sym (ap (λ n. closed-with n b (bakes b) (length (given-up b))) zero-number))
+            (sym (ap (λ n. closed-if n b) zero-number))
             (and-intro _ true (closing-fits b h zero-number) refl);
         after = after-close;
       })

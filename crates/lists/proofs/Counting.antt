@@ -1,6 +1,7 @@
 -- The laws of counting.
 use mathlib.Core.Path.{_≡_, refl, sym, ap, _∙_}
 use mathlib.Core.Bool.{Bool, true, false, _&&_, _||_, cond}
+use mathlib.Core.Logic.{_⊎_, inl, inr}
 use mathlib.Core.List.{List, [], _∷_, _++_, map, List·Memᴰ, List·Memᴰ·head, List·Memᴰ·tail}
 use Prim.Native.Nat.{ℕ, suc, _+_, _-_, _≤_, min}
 use native.Mathlib.Omega.{arith}
@@ -30,6 +31,16 @@ pub one-if-mono : (a b : Bool) → (a ≡ true → b ≡ true) → one-if a ≤ 
 unfolding one-if
 one-if-mono true b f = omega (arith, one-if-yes b (f refl))
 one-if-mono false b f = omega arith
+
+-- a test that passes only where one of two others does
+pub one-if-either : (a b c : Bool) → (a ≡ true → (b ≡ true) ⊎ (c ≡ true)) → one-if a ≤ one-if b + one-if c
+unfolding one-if
+one-if-either false b c f = omega arith
+one-if-either true b c f = go (f refl)
+  where
+    go : (b ≡ true) ⊎ (c ≡ true) → 1 ≤ one-if b + one-if c
+    go (inl e) = omega (arith, one-if-yes b e)
+    go (inr e) = omega (arith, one-if-yes c e)
 
 module _ {A : Type 0} (p : A → Bool) where
   pub count-append : (k l : List A) → how-many p (k ++ l) ≡ how-many p k + how-many p l
@@ -91,6 +102,12 @@ module _ {A : Type 0} (p q : A → Bool) where
   unfolding how-many
   count-split r [] f = omega arith
   count-split r (a ∷ l) f = omega (arith, f a (List·Memᴰ·head refl), count-split r l (λ x m. f x (List·Memᴰ·tail m)))
+
+  -- each element that passes a third test passes one of the two
+  pub count-cover : (r : A → Bool) (l : List A) → ((x : A) → List·Memᴰ x l → r x ≡ true → (p x ≡ true) ⊎ (q x ≡ true)) → how-many r l ≤ how-many p l + how-many q l
+  unfolding how-many
+  count-cover r [] f = omega arith
+  count-cover r (a ∷ l) f = omega (arith, one-if-either (r a) (p a) (q a) (f a (List·Memᴰ·head refl)), count-cover r l (λ x m. f x (List·Memᴰ·tail m)))
 
   pub count-in-selection : (l : List A) → how-many p (select q l) ≡ how-many (λ x. q x && p x) l
   unfolding how-many select one-if

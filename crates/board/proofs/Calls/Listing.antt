@@ -8,25 +8,25 @@ use lib.Seq.{take-at}
 use Rattle.rule.specs.Job.{Job}
 use Rattle.board.specs.declared.Board.{Board}
 use Rattle.board.specs.Rows.{unless-refused}
-use Rattle.board.specs.Close.{close-number, closed-with, bakes, given-up, closed, listing}
+use Rattle.board.specs.Close.{close-number, closed-with, closed-if, bakes, given-up, closed, listing}
 use Rattle.board.specs.Lent.{Lent, written-over, lent-with}
 
 module _ (b : Board) (lent : ℕ) where
   -- the answer says how many are listed
   pub listed-number : closed b lent .listed ≡ length (listing b lent)
-  unfolding closed closed-with listing unless-refused
+  unfolding closed closed-if closed-with listing unless-refused
   listed-number = go (close-number b lent)
     where
-      go : (n : ℕ) → closed-with n b (bakes b) (length (given-up b)) .listed ≡ length (unless-refused n (given-up b))
+      go : (n : ℕ) → closed-if n b .listed ≡ length (unless-refused n (given-up b))
       go zero = refl
       go (suc n) = refl
 
   -- a closing that is not refused lists the jobs given up
   pub listing-given-up : closed b lent .refusal ≡ 0 → listing b lent ≡ given-up b
-  unfolding closed closed-with listing unless-refused
+  unfolding closed closed-if closed-with listing unless-refused
   listing-given-up h = go (close-number b lent) h
     where
-      go : (n : ℕ) → closed-with n b (bakes b) (length (given-up b)) .refusal ≡ 0 → unless-refused n (given-up b) ≡ given-up b
+      go : (n : ℕ) → closed-if n b .refusal ≡ 0 → unless-refused n (given-up b) ≡ given-up b
       go zero h = refl
       go (suc n) h = absurd (omega arith)
 

@@ -14,7 +14,7 @@ use Rattle.board.specs.Rows.{first-given, admit-rows, close-rows}
 use Rattle.board.specs.Held.{slot-of, in-slot}
 use Rattle.board.specs.Sound.{sound}
 use Rattle.board.specs.Admit.{admit-number, with-job, admitted-if, admitted}
-use Rattle.board.specs.Close.{close-number, moved-on-with, closed-with, bakes, given-up, closed}
+use Rattle.board.specs.Close.{close-number, moved-on-with, closed-with, closed-if, bakes, given-up, closed}
 use Rattle.board.proofs.Soundness.Apart.{facts}
 use Rattle.board.proofs.Soundness.Together.{all-sound}
 use Rattle.board.proofs.Calls.Rows.{row-skipped, admits, closes}
@@ -58,9 +58,9 @@ admitted-sound b t w g s = go (admit-number b t w g) refl
     go (suc n) e = s
 
 pub closed-sound : (b : Board) (lent : ℕ) → sound b ≡ true → sound (closed b lent .board) ≡ true
-unfolding closed closed-with
+unfolding closed closed-if closed-with
 closed-sound b lent s = go (close-number b lent) refl
   where
-    go : (n : ℕ) → close-number b lent ≡ n → sound (closed-with n b (bakes b) (length (given-up b)) .board) ≡ true
+    go : (n : ℕ) → close-number b lent ≡ n → sound (closed-if n b .board) ≡ true
     go zero e = moved-on-sound b (ticket-of (bakes b)) s (close-going b lent s e)
     go (suc n) e = s

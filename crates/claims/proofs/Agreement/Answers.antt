@@ -15,7 +15,7 @@ use Rattle.board.specs.declared.Board.{Board}
 use Rattle.board.specs.Rows.{first-given, admit-rows, close-rows}
 use Rattle.board.specs.Held.{slot-of, held, in-slot}
 use Rattle.board.specs.Admit.{admit-number, with-job, admitted-if, admitted}
-use Rattle.board.specs.Close.{close-number, bakes, given-up, moved-on-with, closed-with, closed}
+use Rattle.board.specs.Close.{close-number, bakes, given-up, moved-on-with, closed-with, closed-if, closed}
 use Rattle.board.proofs.Soundness.Facts.{admitted-in}
 use Rattle.board.proofs.Calls.SoundAfter.{admit-number-sound, close-number-sound}
 use Rattle.claims.specs.Calls.{admit, close}
@@ -70,7 +70,7 @@ module _ {d s : ℕ} {b : Board} {B : Book} {left : List Job} (a : Agree d s b B
           inr (record { stopped = ap (λ n. eqb n 0) (same-admit t w g ∙ e) ∙ ne-eqb (suc n) 0 (omega arith); board = ap (λ n. admitted-if n b t w g .board) e })
 
   pub close-answers : (lent : ℕ) → CloseTaken d b B lent ⊎ CloseRefused d b B lent
-  unfolding lets-through closed closed-with
+  unfolding lets-through closed closed-if closed-with
   close-answers lent = go (close-number b lent) refl
     where
       go : (n : ℕ) → close-number b lent ≡ n → CloseTaken d b B lent ⊎ CloseRefused d b B lent
@@ -78,8 +78,8 @@ module _ {d s : ℕ} {b : Board} {B : Book} {left : List Job} (a : Agree d s b B
           inl (record {
             through = ap (λ n. eqb n 0) (same-close lent ∙ e);
             number = e;
-            board = ap (λ n. closed-with n b (bakes b) (length (given-up b)) .board) e;
-            ticket = ap (λ n. closed-with n b (bakes b) (length (given-up b)) .ticket) e;
+            board = ap (λ n. closed-if n b .board) e;
+            ticket = ap (λ n. closed-if n b .ticket) e;
           })
       go (suc n) e =
-          inr (record { stopped = ap (λ n. eqb n 0) (same-close lent ∙ e) ∙ ne-eqb (suc n) 0 (omega arith); board = ap (λ n. closed-with n b (bakes b) (length (given-up b)) .board) e })
+          inr (record { stopped = ap (λ n. eqb n 0) (same-close lent ∙ e) ∙ ne-eqb (suc n) 0 (omega arith); board = ap (λ n. closed-if n b .board) e })

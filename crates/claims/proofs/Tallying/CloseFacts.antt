@@ -18,7 +18,7 @@ use Rattle.board.specs.declared.Board.{Board}
 use Rattle.board.specs.Limits.{most-in-slot, last-slot}
 use Rattle.board.specs.Held.{slot-of, held, in-slot, thinned}
 use Rattle.board.specs.Sound.{sound}
-use Rattle.board.specs.Close.{close-number, bakes, given-up, moved-on-with, closed-with, closed}
+use Rattle.board.specs.Close.{close-number, bakes, given-up, moved-on-with, closed-with, closed-if, closed}
 use Rattle.board.specs.Tally.{tally-grades}
 use Rattle.board.specs.Rows.{unless-refused}
 use Rattle.board.specs.Events.{admitted-kind, baked-kind, given-up-kind, Event, event, baked-events, given-up-events, close-events}
@@ -118,10 +118,10 @@ module _ (b : Board) (s : sound b ≡ true) where
       }
 
 pub close-leads : (b : Board) (lent : ℕ) → sound b ≡ true → Leads b (close-events b lent) (closed b lent .board)
-unfolding close-events unless-refused closed closed-with
+unfolding close-events unless-refused closed closed-if closed-with
 close-leads b lent s = go (close-number b lent) refl
   where
-    go : (n : ℕ) → close-number b lent ≡ n → let r = closed-with n b (bakes b) (length (given-up b)) in
+    go : (n : ℕ) → close-number b lent ≡ n → let r = closed-if n b in
         Leads b (unless-refused (r .refusal) (baked-events (r .ticket) (r .grade) ++ given-up-events (given-up b))) (r .board)
     go zero e = subst (λ es. Leads b (es ++ given-up-events (given-up b)) (moved-on-with b (ticket-of (bakes b)))) (sym (named b s (bakes b) refl)) (taken b s lent e)
     go (suc n) e = leads-nowhere b s

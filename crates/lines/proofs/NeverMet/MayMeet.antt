@@ -18,7 +18,7 @@ use Rattle.board.specs.Held.{slot-of, in-slot}
 use Rattle.board.specs.Sound.{sound}
 use Rattle.board.specs.Open.{opened-if, opened}
 use Rattle.board.specs.Admit.{admit-number, admitted-if, admitted}
-use Rattle.board.specs.Close.{bakes, given-up, close-number, closed-with, closed}
+use Rattle.board.specs.Close.{bakes, given-up, close-number, closed-with, closed-if, closed}
 use Rattle.board.proofs.Calls.Rows.{row-passed}
 use Rattle.board.proofs.Calls.SoundAfter.{admit-number-sound, close-number-sound}
 use Rattle.lines.specs.Bytes.{Bytes}
@@ -61,10 +61,10 @@ admitted-number b t w g = go (admit-number b t w g)
     go (suc n) = refl
 
 pub closed-number : (b : Board) (lent : ℕ) → closed b lent .refusal ≡ close-number b lent
-unfolding closed closed-with
+unfolding closed closed-if closed-with
 closed-number b lent = go (close-number b lent)
   where
-    go : (n : ℕ) → closed-with n b (bakes b) (length (given-up b)) .refusal ≡ n
+    go : (n : ℕ) → closed-if n b .refusal ≡ n
     go zero = refl
     go (suc n) = refl
 

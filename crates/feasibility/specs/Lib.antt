@@ -1,0 +1,3 @@
+pub mod PlanFrom
+pub mod Fewest
+pub mod AllBaked
