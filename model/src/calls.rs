@@ -7,6 +7,7 @@ use crate::board::{Board, Job};
 use crate::refusal::Refusal;
 use crate::rows::{self, Standing};
 use crate::rule;
+use crate::shortfall;
 use crate::soundness::is_sound;
 
 /// An entry of the given-up list.
@@ -25,6 +26,9 @@ pub struct Closed {
     /// The racks given up, 'by grade from best to worst, within a grade by rising
     /// ticket' (02, Four).
     pub expired: Vec<Expired>,
+    /// The least number of the racks on the board before the bake that any plan
+    /// gives up (02, Five). 'An empty board has shortfall zero.'
+    pub shortfall: u32,
 }
 
 /// What the rows read on a board.
@@ -81,6 +85,7 @@ where
 {
     check_sound(board)?;
     rows::closing(standing(board), lent)?;
+    let shortfall = shortfall::least_given_up(board.jobs(), board.slot);
     let baked = pick(board.jobs(), board.slot, board.depth);
     let mut expired = Vec::new();
     let mut kept = Vec::new();
@@ -106,5 +111,6 @@ where
         ticket: baked.ticket,
         grade: baked.grade,
         expired,
+        shortfall,
     })
 }

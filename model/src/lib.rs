@@ -24,5 +24,6 @@ pub mod rows;
 pub mod rule;
 pub mod samples;
 pub mod sheet;
+pub mod shortfall;
 pub mod soundness;
 pub mod tally;

@@ -16,11 +16,12 @@ pub fn done(done: &Done) -> Vec<String> {
     }
 }
 
-/// B: a slot was closed; then G for each rack given up, in the order of the answer.
+/// B: a slot was closed, with the shortfall as 'a sixth field' (02, Five); then G for
+/// each rack given up, in the order of the answer.
 fn closing(slot: u32, closed: &Closed) -> Vec<String> {
     let given_up = closed.expired.len();
-    let (ticket, grade) = (closed.ticket, closed.grade);
-    let mut lines = vec![format!("B,{slot},{ticket},{grade},{given_up}")];
+    let (ticket, grade, shortfall) = (closed.ticket, closed.grade, closed.shortfall);
+    let mut lines = vec![format!("B,{slot},{ticket},{grade},{given_up},{shortfall}")];
     for job in &closed.expired {
         lines.push(format!("G,{},{},{}", slot, job.ticket, job.grade));
     }

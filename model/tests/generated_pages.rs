@@ -2,6 +2,7 @@
 
 mod common;
 
+use common::closed_slots;
 use common::paper::{LINES, PAGE};
 use model::inputs::{self, Kind};
 use model::program::run_bytes;
@@ -23,9 +24,8 @@ fn printed(seed: u64, closings: u32) -> String {
 fn a_day_has_so_many_closings() {
     for (closings, pages) in DAYS {
         for seed in 0..60 {
-            let output = printed(seed, closings);
-            let closed = output.lines().filter(|line| line.starts_with("B,"));
-            assert_eq!(closed.count(), closings as usize, "{closings} {seed}");
+            let closed = closed_slots(&printed(seed, closings));
+            assert_eq!(closed.len(), closings as usize, "{closings} {seed}");
             let sheet = sheet(&kind().input(seed, Some(closings)));
             assert_eq!(sheet.len(), pages * PAGE, "{closings} {seed}");
         }
@@ -45,24 +45,29 @@ fn refused_lines_stand_between_closings() {
 #[test]
 fn long_days_have_slots_that_bake_nothing() {
     for closings in [47, 48, 49, 96, 97] {
-        let empty = |seed| printed(seed, closings).contains(",0,0,0\n");
-        let days = (0..60).filter(|&seed| empty(seed)).count();
+        let has_empty = |seed| {
+            let closed = closed_slots(&printed(seed, closings));
+            closed.iter().any(|figures| figures[1] == 0)
+        };
+        let days = (0..60).filter(|&seed| has_empty(seed)).count();
         assert!(days > 30, "{closings}: {days}");
     }
+}
+
+/// How many slots of a day give up 255 racks.
+fn giving_up_255(seed: u64, closings: u32) -> usize {
+    let closed = closed_slots(&printed(seed, closings));
+    closed.iter().filter(|figures| figures[3] == 255).count()
 }
 
 #[test]
 fn from_37_closings_on_a_slot_gives_up_255() {
     for closings in [37, 47, 48, 49, 96, 97] {
         for seed in 0..60 {
-            let output = printed(seed, closings);
-            let most = output
-                .lines()
-                .filter(|line| line.starts_with("B,") && line.ends_with(",255"));
-            assert_eq!(most.count(), 1, "{closings} {seed}");
+            assert_eq!(giving_up_255(seed, closings), 1, "{closings} {seed}");
         }
     }
-    assert!(!printed(0, 36).contains(",255\n"));
+    assert_eq!(giving_up_255(0, 36), 0);
 }
 
 #[test]

@@ -65,7 +65,7 @@ fn refusals_count_every_line() {
         "R,5,12",
         "A,1,1",
         "R,7,4",
-        "B,1,1,0,0",
+        "B,1,1,0,0,0",
         "R,9,12",
     ];
     assert_eq!(seen, wanted);
@@ -84,7 +84,7 @@ fn row_11_comes_first() {
 fn an_overlong_line_is_one_line_and_one_refusal() {
     let long = "A,1,1,0,".repeat(20_000);
     let seen = answers(&format!("D,0\n{long}\n{long}\nB\n{long}"));
-    assert_eq!(seen, ["D,0", "R,2,11", "R,3,11", "B,1,0,0,0", "R,5,11"]);
+    assert_eq!(seen, ["D,0", "R,2,11", "R,3,11", "B,1,0,0,0,0", "R,5,11"]);
 }
 
 #[test]
@@ -198,10 +198,10 @@ fn row_14_blank_only_as_grade() {
 fn a_blank_grade_is_the_worst_of_the_depth() {
     // One rack without a grade is given up (at depth 0 baked), one is baked.
     let wanted = [
-        "D,0\nA,1,1\nA,2,1\nA,3,2\nB,1,1,0,1\nG,1,2,0\nB,2,3,0,0\nT,0,3,2,1\n",
-        "D,1\nA,1,1\nA,2,1\nA,3,2\nB,1,2,0,1\nG,1,1,1\nB,2,3,1,0\nT,0,1,1,0\nT,1,2,1,1\n",
-        "D,2\nA,1,1\nA,2,1\nA,3,2\nB,1,2,0,1\nG,1,1,3\nB,2,3,3,0\nT,0,1,1,0\nT,1,0,0,0\nT,2,0,0,0\nT,3,2,1,1\n",
-        "D,3\nA,1,1\nA,2,1\nA,3,2\nB,1,2,0,1\nG,1,1,7\nB,2,3,7,0\nT,0,1,1,0\nT,1,0,0,0\nT,2,0,0,0\nT,3,0,0,0\nT,4,0,0,0\nT,5,0,0,0\nT,6,0,0,0\nT,7,2,1,1\n",
+        "D,0\nA,1,1\nA,2,1\nA,3,2\nB,1,1,0,1,1\nG,1,2,0\nB,2,3,0,0,0\nT,0,3,2,1\n",
+        "D,1\nA,1,1\nA,2,1\nA,3,2\nB,1,2,0,1,1\nG,1,1,1\nB,2,3,1,0,0\nT,0,1,1,0\nT,1,2,1,1\n",
+        "D,2\nA,1,1\nA,2,1\nA,3,2\nB,1,2,0,1,1\nG,1,1,3\nB,2,3,3,0,0\nT,0,1,1,0\nT,1,0,0,0\nT,2,0,0,0\nT,3,2,1,1\n",
+        "D,3\nA,1,1\nA,2,1\nA,3,2\nB,1,2,0,1,1\nG,1,1,7\nB,2,3,7,0,0\nT,0,1,1,0\nT,1,0,0,0\nT,2,0,0,0\nT,3,0,0,0\nT,4,0,0,0\nT,5,0,0,0\nT,6,0,0,0\nT,7,2,1,1\n",
     ];
     for (depth, wanted) in wanted.iter().enumerate() {
         let seen = printed(&format!("D,{depth}\nA,1,1,\nA,2,1,0\nA,3,2,\nB\nB\n"));
@@ -246,7 +246,7 @@ fn fields_come_before_row_15_and_before_the_call() {
 fn after_a_refused_opening_no_board_is_open() {
     let seen = printed("D,4\nB\nA,1,1,0\nD,4294967295\n");
     assert_eq!(seen, "R,1,1\nR,2,15\nR,3,15\nR,4,1\n");
-    assert_eq!(answers("D,4\nD,2\nB\n"), ["R,1,1", "D,2", "B,1,0,0,0"]);
+    assert_eq!(answers("D,4\nD,2\nB\n"), ["R,1,1", "D,2", "B,1,0,0,0,0"]);
 }
 
 #[test]
@@ -261,7 +261,7 @@ fn tickets_in_lines() {
 #[test]
 fn racks_left_at_the_end_are_only_admitted() {
     let seen = printed("D,0\nA,1,1,0\nA,2,1,0\nB\nA,3,5,0\nA,4,5,0\n");
-    let wanted = "D,0\nA,1,1\nA,2,1\nB,1,1,0,1\nG,1,2,0\nA,3,6\nA,4,6\nT,0,4,1,1\n";
+    let wanted = "D,0\nA,1,1\nA,2,1\nB,1,1,0,1,1\nG,1,2,0\nA,3,6\nA,4,6\nT,0,4,1,1\n";
     assert_eq!(seen, wanted);
 }
 

@@ -1,4 +1,5 @@
-//! The paper's sample input and its output, byte for byte.
+//! The paper's sample input and its output, byte for byte; the B lines have the
+//! shortfall (02, Five).
 
 use model::program::run_bytes;
 
@@ -8,10 +9,10 @@ const OUTPUT: &[u8] = b"D,1
 A,1,1
 A,2,2
 A,3,2
-B,1,3,0,1
+B,1,3,0,1,1
 G,1,1,1
-B,2,2,1,0
-B,3,0,0,0
+B,2,2,1,0,0
+B,3,0,0,0,0
 T,0,1,1,0
 T,1,2,1,1
 ";

@@ -2,20 +2,20 @@
 
 mod common;
 
+use common::closed_slots;
 use common::paper::{figures, HEADING, LINES, PAGE, SPACES};
 use model::inputs;
 use model::program::run_bytes;
 use model::sheet::sheet;
 
-/// The figures of the B lines that the board's program prints.
+/// The figures that the sheet shows of the B lines that the board's program prints:
+/// all but the shortfall.
 fn closings(input: &[u8]) -> Vec<[u32; 4]> {
     let printed = String::from_utf8(run_bytes(input)).expect("text");
-    let lines = printed.lines().filter_map(|line| line.strip_prefix("B,"));
-    let figures = |line: &str| {
-        let words = line.split(',').map(|word| word.parse().expect("a number"));
-        words.collect::<Vec<_>>().try_into().expect("four figures")
-    };
-    lines.map(figures).collect()
+    let closings = closed_slots(&printed).into_iter();
+    closings
+        .map(|[slot, ticket, grade, given_up, _]| [slot, ticket, grade, given_up])
+        .collect()
 }
 
 /// A page's figures are these closings, and its totals are theirs.

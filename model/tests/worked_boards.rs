@@ -104,6 +104,7 @@ fn board_9_last_slot_of_the_book() {
         ticket: 1,
         grade: 0,
         expired: Vec::new(),
+        shortfall: 0,
     };
     assert_eq!(close(&mut board, MOST_HELD), Ok(closed));
     assert_eq!(close(&mut board, MOST_HELD), Err(Refusal::BookEnded));

@@ -16,10 +16,11 @@ unfoldable pub printed-given-up : (slot : ℕ) → List Named → Bytes
 printed-given-up k [] = []
 printed-given-up k (r ∷ A) = printed letter-G (k ∷ r .ticket ∷ r .grade ∷ []) ++ printed-given-up k A
 
--- `B,slot,ticket,grade,number given up`, then the G lines
+-- `B,slot,ticket,grade,number given up`; 02, Five: 'The B line has' the shortfall 'as a sixth field'. Then the G lines.
 unfoldable pub printed-closing : Closing → Bytes
 printed-closing c =
-    printed letter-B (c .slot ∷ c .baked .ticket ∷ c .baked .grade ∷ length (c .given-up) ∷ []) ++ printed-given-up (c .slot) (c .given-up)
+    printed letter-B (c .slot ∷ c .baked .ticket ∷ c .baked .grade ∷ length (c .given-up) ∷ c .shortfall ∷ [])
+    ++ printed-given-up (c .slot) (c .given-up)
 
 -- 'for a refusal `R,line number from 1,number`'; `D,depth`; `A,ticket,last slot`
 unfoldable pub printed-answer : (line : ℕ) → Answer → Bytes

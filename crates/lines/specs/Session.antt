@@ -38,11 +38,12 @@ pub record Named : Type 0 where
 unfoldable pub named : Job → Named
 named r = record { ticket = r .ticket; grade = r .grade }
 
--- a slot closed: the job baked, or 0 and 0 where the slot stays empty, and the jobs given up
+-- a slot closed: the job baked, or 0 and 0 where the slot stays empty, the jobs given up, and the shortfall
 pub record Closing : Type 0 where
   pub slot : ℕ
   pub baked : Named
   pub given-up : List Named
+  pub shortfall : ℕ
 
 -- what a line is answered
 pub data Answer : Type 0 where
@@ -81,7 +82,9 @@ step-close b =
     let r = closed b places-held in
     cond (eqb (r .refusal) 0)
     (record {
-      answer = a-closing (record { slot = slot-of b; baked = record { ticket = r .ticket; grade = r .grade }; given-up = map named (given-up b) });
+      answer =
+          a-closing
+          (record { slot = slot-of b; baked = record { ticket = r .ticket; grade = r .grade }; given-up = map named (given-up b); shortfall = r .shortfall });
       board = some (r .board);
       events = close-events b places-held;
     })

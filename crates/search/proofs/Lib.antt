@@ -2,9 +2,11 @@ pub mod Start
 pub mod Seeing
 pub mod Sums
 pub mod Signed
+pub mod Known
 pub mod BestLaxity
 pub mod TightFound
 pub mod NextBit
 pub mod FromCounts
 pub mod Earlier
+pub mod SmallestFound
 pub mod OnSound

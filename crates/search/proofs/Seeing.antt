@@ -44,7 +44,7 @@ counts-seen b h C =
     }
 
 -- at a depth above the greatest no job is seen, and nothing is baked
-none-seen : (b : Board) → deepest < b .depth → seen b ≡ []
+pub none-seen : (b : Board) → deepest < b .depth → seen b ≡ []
 none-seen b h = empty (seen b) (λ r m. omega (arith, member-seen b r m .shallow))
   where
     empty : (A : List Job) → ((r : Job) → ¬ List·Memᴰ r A) → A ≡ []

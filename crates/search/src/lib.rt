@@ -1,6 +1,6 @@
-// The search for the job that a slot bakes: one walk along the board counts its jobs by laxity and grade; from these counts alone comes the grade, down
-// its bits, and the tight laxity of that grade's jobs; then the soonest job of this no-regret set. It takes any board, and goes by the jobs that it sees
-// there; on a sound board these are all.
+// The search for the job that a slot bakes: one walk along the board counts its jobs by laxity and grade; from these counts alone comes the smallest
+// excess of all jobs, which is the shortfall, the grade, down its bits, and the tight laxity of that grade's jobs; then the soonest job of this no-regret
+// set. It takes any board, and goes by the jobs that it sees there; on a sound board these are all.
 // A start of a grade is the number of its first bits, `start`, with `left` bits left: the grades that start so are the 2 ^ left from start * 2 ^ left
 // on. All of them are below (start + 1) * 2 ^ left, which is at most 2 ^ depth.
 ghost use Rattle.search.specs.Inner.Found.{BakedSeen};
@@ -10,14 +10,17 @@ use counts::CELLS;
 
 mod columns;
 mod descent;
+mod shortfall;
 mod soonest;
 mod tight;
 
-// The job that a slot bakes: its ticket, grade and last slot, all 0 where no job is seen; and the counts by which it was found.
+// The job that a slot bakes: its ticket, grade and last slot, all 0 where no job is seen; the shortfall of all jobs seen; and the counts by which both
+// were found.
 pub struct Baked {
     pub ticket: u32,
     pub grade: u8,
     pub last: Slot,
+    pub shortfall: u32,
     pub counts: [u16; CELLS],
 }
 
@@ -31,17 +34,20 @@ pub fn bake(b: Board) -> Baked
             ticket: 0,
             grade: 0,
             last: Slot(0),
+            shortfall: 0,
             counts,
         };
     }
-    let grade = descent::descend(&counts, 0, b.depth);
-    let best = tight::tight(&counts, grade, 0);
-    let p = soonest::soonest(b, grade, best.laxity);
+    let all = tight::tight(&counts, 0, b.depth);
+    let set = descent::descend(&counts, 0, b.depth, all);
+    let own = set.best;
+    let p = soonest::soonest(b, set.grade, own.laxity);
     let last = p.last;
     Baked {
         ticket: p.ticket,
         grade: p.grade,
         last,
+        shortfall: shortfall::shortfall_of(all),
         counts,
     }
 }

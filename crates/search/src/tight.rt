@@ -1,13 +1,13 @@
 // The tight laxity from counts: of the laxities that a job has, the least whose excess is smallest, and that excess.
 ghost use mathlib.Core.Path.{_≡_};
 ghost use mathlib.Core.Bool.{_||_};
-ghost use Prim.Native.Nat.{_+_, _^_, _≤_, _<_};
+ghost use Prim.Native.Nat.{_+_, _^_, _<_};
 ghost use lib.Dec.{eqb};
 ghost use lib.IntN.{pos, _-ℤ_};
 ghost use lib.Signed.{ltZ};
 ghost use Rattle.board.specs.Limits.{deepest, longest-laxity};
 ghost use Rattle.search.specs.Inner.Start.{Start};
-ghost use Rattle.search.specs.Inner.Answers.{TightOf, best-with};
+ghost use Rattle.search.specs.Inner.Answers.{Tightest, best-with};
 use crate::columns;
 use board::Laxity;
 use counts::CELLS;
@@ -67,8 +67,7 @@ fn better(best: Best, before: u32, here: u32, k: usize) -> Best
 // The tight laxity of the jobs whose grade starts so, and its excess: one column of counts after the other.
 pub(crate) fn tight(counts: &[u16; CELLS], start: u8, left: u8) -> Best
     requires { ⌜ Start deepest start left ⌝ }
-    ensures { λ r. ⌜ TightOf (now (counts .entry)) start left r ⌝ }
-    ensures { λ r. ⌜ r .laxity .0 ≤ longest-laxity ⌝ }
+    ensures { λ r. ⌜ Tightest (now (counts .entry)) start left r ⌝ }
 {
     let mut best = Best {
         excess: 0,

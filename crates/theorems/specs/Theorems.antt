@@ -7,6 +7,9 @@ use Rattle.books.specs.Rule.{Rule}
 use Rattle.books.specs.Rival.{Setting, Rival, Level}
 use Rattle.books.specs.NoRegretRule.{Busy, Characterised}
 use Rattle.books.specs.LeastLastSlot.{least-last-rule, paper-setting}
+use Rattle.feasibility.specs.PlanFrom.{BakedSomewhere}
+use Rattle.feasibility.specs.Fewest.{ShortfallFewest}
+use Rattle.feasibility.specs.AllBaked.{ZeroSuffices}
 use Rattle.board.specs.declared.Board.{Board}
 use Rattle.board.specs.Limits.{most-in-slot, places-held}
 use Rattle.board.specs.Held.{in-slot}
@@ -16,6 +19,7 @@ use Rattle.claims.specs.Calls.{Call, board-after}
 use Rattle.claims.specs.Demand3.{Demand3}
 use Rattle.claims.specs.Balance.{Balance}
 use Rattle.claims.specs.GivenUpInOrder.{GivenUpInOrder}
+use Rattle.claims.specs.Shortfall.{BoardShortfall}
 use Rattle.lines.specs.Machine.{ByteByByte}
 use Rattle.lines.specs.NeverMet.{NeverMet}
 use Rattle.lines.specs.BlankGrade.{BlankGrade}
@@ -28,6 +32,14 @@ pub record Theorems : Type 0 where
   pub balance : Balance
   -- the jobs given up are listed by grade from best to worst, within a grade by rising ticket, each once and no other
   pub given-up-in-order : GivenUpInOrder
+  -- the shortfall is the least number of jobs that any plan gives up if nothing more arrives: in any slot, for any jobs; and of every sound board, whose
+  -- closing carries it
+  pub shortfall-fewest : ShortfallFewest
+  pub board-shortfall : BoardShortfall
+  -- a plan gives up a job where it gives its ticket to no slot
+  pub baked-somewhere : BakedSomewhere
+  -- all jobs can be baked exactly when the smallest excess is zero or more
+  pub zero-suffices : ZeroSuffices
   -- a rule has level j exactly when it keeps to the no-regret sets of order j; ours has every level
   pub characterised : (S : Setting) → Characterised S
   -- a rule that idles with a job in date is no rival

@@ -1,6 +1,7 @@
 //! Inputs for the program, made from a kind, a seed and a size alone.
 
 mod days;
+mod full;
 mod pages;
 mod spoilt;
 mod writer;
@@ -19,7 +20,7 @@ pub struct Kind {
 }
 
 /// All kinds.
-pub const KINDS: [Kind; 13] = [
+pub const KINDS: [Kind; 14] = [
     Kind {
         name: "ordinary",
         about: "ordinary days, about as many racks as slots",
@@ -97,6 +98,12 @@ pub const KINDS: [Kind; 13] = [
         about: "so many closings exactly; from 37 on a slot gives up 255 racks",
         size: 97,
         make: pages::pages,
+    },
+    Kind {
+        name: "shortfall",
+        about: "a board about full: a rack fewer than fits, all that fit, one or a few more",
+        size: 100,
+        make: full::shortfall,
     },
 ];
 

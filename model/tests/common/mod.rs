@@ -7,11 +7,14 @@ pub mod paper;
 
 use model::board::{open, Board, Job};
 use model::book::Book;
-use model::calls::{admit, Closed};
+use model::calls::{admit, close, Closed};
+use model::day::{Day, Done};
 use model::draw::Draw;
-use model::limits::{DEEPEST, MOST_HELD};
+use model::limits::{DEEPEST, LONGEST_LAXITY, MOST_HELD};
+use model::lines::next_line;
 use model::list::{play_with, Answer, Call};
-use model::plans::{is_unbeaten, plan_of, Plan};
+use model::plans::{is_unbeaten, most_baked, plan_of, Plan};
+use model::printing;
 use model::samples::{self, Crowd};
 
 /// A way to name the rack to bake from racks, slot and depth.
@@ -28,6 +31,20 @@ pub fn answers(input: &str) -> Vec<String> {
     let output = printed(input);
     let lines = output.lines().filter(|line| !line.starts_with('T'));
     lines.map(|line| line.to_string()).collect()
+}
+
+/// The figures of a B line: slot, ticket, grade, number given up, shortfall.
+pub fn figures(line: &str) -> [u32; 5] {
+    let figures = line.strip_prefix("B,").expect("a B line").split(',');
+    let figures = figures.map(|figure| figure.parse().expect("a number"));
+    let figures: Vec<u32> = figures.collect();
+    figures.try_into().expect("five figures")
+}
+
+/// The figures of the B lines in an output.
+pub fn closed_slots(output: &str) -> Vec<[u32; 5]> {
+    let lines = output.lines().filter(|line| line.starts_with("B,"));
+    lines.map(figures).collect()
 }
 
 /// A board in slot 1 with racks given as (wait, grade), tickets from 1 in that order.
@@ -112,4 +129,71 @@ pub fn beaten(pick: Pick, trials: usize) -> usize {
         }
     }
     beaten
+}
+
+/// A closing: the racks before it, its slot, its answer, the racks after it.
+#[derive(Debug)]
+pub struct Closing {
+    pub jobs: Vec<Job>,
+    pub slot: u32,
+    pub closed: Closed,
+    pub left: Vec<Job>,
+}
+
+impl Closing {
+    /// The closing of a board that is sound and in a slot of the book.
+    pub fn of(board: &Board) -> Closing {
+        let mut after = board.clone();
+        let closed = close(&mut after, MOST_HELD).expect("the board can be closed");
+        Closing {
+            jobs: board.jobs().to_vec(),
+            slot: board.slot,
+            closed,
+            left: after.jobs().to_vec(),
+        }
+    }
+}
+
+/// Follows a day and hands on each closing, with the B line printed for it.
+pub fn each_closing<E: FnMut(&Closing, &str)>(mut input: &[u8], mut each: E) {
+    let mut day = Day::default();
+    while let Some(line) = next_line(&mut input).expect("memory can be read") {
+        let jobs = jobs_on(&day);
+        let done = match day.take(&line) {
+            Ok(done) => done,
+            Err(_) => continue,
+        };
+        let printed = printing::done(&done).remove(0);
+        if let Done::Closed { slot, closed } = done {
+            let left = jobs_on(&day);
+            let closing = Closing {
+                jobs,
+                slot,
+                closed,
+                left,
+            };
+            each(&closing, &printed);
+        }
+    }
+}
+
+/// The racks on the day's board, if one is open.
+fn jobs_on(day: &Day) -> Vec<Job> {
+    let board = day.board.as_ref();
+    board.map_or(Vec::new(), |board| board.jobs().to_vec())
+}
+
+/// A book of these racks that begins with this slot, for the plans from it on.
+pub fn book_from(jobs: &[Job], slot: u32) -> Book {
+    Book {
+        jobs: jobs.to_vec(),
+        ..Book::begin(0, slot, 0)
+    }
+}
+
+/// The least number of these racks that any plan from this slot on gives up, by
+/// matching. No rack waits longer than 32 slots, so no later slot is of use.
+pub fn least_by_matching(jobs: &[Job], slot: u32) -> u32 {
+    let most = most_baked(&book_from(jobs, slot), LONGEST_LAXITY as usize);
+    (jobs.len() - most) as u32
 }

@@ -14,6 +14,7 @@ use Rattle.search.specs.Inner.Counts.{CountsOf}
 use Rattle.search.specs.Inner.Start.{Start}
 use Rattle.search.proofs.Seeing.{counts-seen, bakes-none, of-grade-starts}
 use Rattle.search.proofs.NextBit.{bakes-found}
+use Rattle.search.proofs.SmallestFound.{shortfall-found, shortfall-none}
 use Rattle.search.proofs.bake.Statement.{statement}
 use Rattle.search.proofs.bake.Tie as tie
 
@@ -28,7 +29,13 @@ unfolding deepest ticket-of grade-of last-of
 returns c =
     let k = c .before .before in
     let e = bakes-none (k .before .args .b) (omega arith) in
-    record { ticket = sym (ap ticket-of e); grade = sym (ap grade-of e); last = sym (ap last-of e); counts = k .counts-of .ensures }
+    record {
+      ticket = sym (ap ticket-of e);
+      grade = sym (ap grade-of e);
+      last = sym (ap last-of e);
+      shortfall = shortfall-none (k .before .args .b) (omega arith);
+      counts = k .counts-of .ensures;
+    }
 
 -- the counts are those of the jobs seen, at a depth in its range
 counted : (c : tie.Else1) → let k = c .before .before in let b = k .before .args .b in CountsOf (slot-of b) (b .depth) (seen b) (k .counts-of .result)
@@ -38,29 +45,41 @@ counted c = counts-seen _ (omega arith) (c .before .before .counts-of .ensures)
 few : (c : tie.Else1) → 2 ^ c .before .before .before .args .b .depth ≤ 2 ^ deepest
 few c = pow-mono (counted c .shallow)
 
-descend-requires : tie.Need-descend-requires
-descend-requires c κs = omega (arith, few (c .before))
-
 tight-requires : tie.Need-tight-requires
-tight-requires c κs = omega (arith, few (c .before .before .before), c .before .descend .ensures .1)
+tight-requires c κs = omega (arith, few (c .before))
+
+descend-requires : tie.Need-descend-requires
+descend-requires c κs = (omega (arith, few (c .before .before .before)), c .before .tight .ensures)
 
 soonest-requires : tie.Need-soonest-requires
 soonest-requires c κs = search needs
 
+shortfall-of-requires : tie.Need-shortfall-of-requires
+shortfall-of-requires c κs = search needs
+
 returns-2 : tie.Need-returns-2
 unfolding bakes-seen
 returns-2 c =
-    let p = c .before .soonest .ensures in
-    let t = c .before .before .tight in
-    let d = c .before .before .before .before .descend in
-    let k = c .before .before .before .before .before .before in
-    let b = k .before .before .before .args .b in
-    let C = counted k in
-    let fits : Start (b .depth) (d .result) 0 = omega (arith, d .ensures .1) in
+    let p = c .before .before .soonest .ensures in
+    let k = c .before .before .before .before in
+    let d = k .descend in
+    let t = k .before .before in
+    let l = t .before .before in
+    let b = l .before .before .before .args .b in
+    let C = counted l in
+    let g = d .result .grade in
+    let w = d .result .best .laxity .0 in
+    let fits : Start (b .depth) g 0 = omega (arith, d .ensures .within) in
     let e =
-    ap soonest (of-grade-starts b (d .result) (t .result .laxity .0) fits)
-    ∙ bakes-found (slot-of b) (b .depth) (seen b) (d .result) (t .result .laxity .0) (d .ensures .0 _ _ _ (omega arith) C) (t .ensures .0 _ _ _ fits C .0) in
-    record { ticket = p .ticket ∙ ap ticket-of e; grade = p .grade ∙ ap grade-of e; last = p .last ∙ ap last-of e; counts = k .before .before .counts-of .ensures }
+    ap soonest (of-grade-starts b g w fits)
+    ∙ bakes-found (slot-of b) (b .depth) (seen b) g w (d .ensures .descent _ _ _ (omega arith) C) (d .ensures .tightest .0 _ _ _ fits C .0) in
+    record {
+      ticket = p .ticket ∙ ap ticket-of e;
+      grade = p .grade ∙ ap grade-of e;
+      last = p .last ∙ ap last-of e;
+      shortfall = c .shortfall-of .ensures ∙ shortfall-found (slot-of b) (b .depth) (seen b) _ C (t .tight .result) (t .tight .ensures .0);
+      counts = l .before .before .counts-of .ensures;
+    }
 
 pub bake-spec : {M : Type 1} → statement M
 bake-spec =
@@ -69,7 +88,8 @@ bake-spec =
     counts-of-requires
     cast-if1
     returns
-    descend-requires
     tight-requires
+    descend-requires
     soonest-requires
+    shortfall-of-requires
     returns-2)

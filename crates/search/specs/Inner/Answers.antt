@@ -2,15 +2,18 @@
 use mathlib.Core.Path.{_≡_}
 use mathlib.Core.Bool.{Bool, not, _||_, cond}
 use mathlib.Core.List.{List, [], _∷_, _++_}
-use Prim.Native.Nat.{ℕ, _+_, _-_}
+use mathlib.Core.Option.{Option, none, some}
+use Prim.Native.Nat.{ℕ, _+_, _-_, _*_, _^_, _≤_}
 use lib.Dec.{eqb}
-use lib.IntN.{pos, _-ℤ_}
+use lib.IntN.{ℤ, pos, _-ℤ_}
 use lib.Signed.{ltZ}
 use Rattle.rule.specs.Job.{Job}
 use Rattle.rule.specs.Grade.{bits, starting}
 use Rattle.rule.specs.Tight.{tight-laxity, excess}
 use Rattle.rule.specs.Descent.{next-bit, descend}
+use Rattle.board.specs.Limits.{longest-laxity}
 use Rattle.search.specs.declared.tight.Best.{Best}
+use Rattle.search.specs.declared.descent.NoRegret.{NoRegret}
 use Rattle.search.specs.Inner.Counts.{CountsOf}
 use Rattle.search.specs.Inner.Start.{Start, first-bits}
 
@@ -24,6 +27,14 @@ TightOf t start left r =
     ForJobs t start left
     (λ now d A u. (r .laxity .0 ≡ tight-laxity now (starting d u A)) × (r .excess ≡ excess now (starting d u A) (tight-laxity now (starting d u A))))
 
+-- a laxity of a board, which is that one
+abbrev pub Tightest : (t : List ℕ) (start left : ℕ) → Best → Type 0
+Tightest t start left r = TightOf t start left r × (r .laxity .0 ≤ longest-laxity)
+
+-- the smallest excess, if there are jobs: laxity 0 says that there are none
+unfoldable pub smallest-in : Best → Option ℤ
+smallest-in r = cond (eqb (r .laxity .0) 0) none (some (r .excess))
+
 -- whether the next bit is 0
 abbrev pub ZeroNext : (t : List ℕ) (start left : ℕ) → Bool → Type 0
 ZeroNext t start left r = ForJobs t start left (λ now d A u. r ≡ not (next-bit now d A u))
@@ -35,6 +46,12 @@ NextStart t start left r = ForJobs t start left (λ now d A u. first-bits d r (l
 -- the grade that the search from the start ends at
 abbrev pub DescentOf : (t : List ℕ) (start left : ℕ) → ℕ → Type 0
 DescentOf t start left r = ForJobs t start left (λ now d A u. bits d r ≡ descend now d A left u)
+
+-- the no-regret set that the search from a start ends at: its grade, which starts so, and the tight laxity of that grade
+pub record EndsAt (t : List ℕ) (start left : ℕ) (r : NoRegret) : Type 0 where
+  pub descent : DescentOf t start left (r .grade)
+  pub within : r .grade + 1 ≤ (start + 1) * 2 ^ left
+  pub tightest : Tightest t (r .grade) 0 (r .best)
 
 -- the best of the laxities up to k, which `before` jobs have, and of k + 1, which `here` jobs have: 'the least wait whose excess is smallest'
 unfoldable pub best-with : Best → (before here k : ℕ) → Best

@@ -3,6 +3,7 @@ use mathlib.Core.Path.{_≡_}
 use mathlib.Core.Option.{Option, none, some}
 use Prim.Native.Nat.{ℕ}
 use Rattle.rule.specs.Job.{Job}
+use Rattle.rule.specs.Shortfall.{shortfall}
 use Rattle.rule.specs.Bake.{ticket-of, grade-of}
 use Rattle.board.specs.declared.Place.{Place}
 use Rattle.board.specs.declared.Board.{Board}
@@ -23,9 +24,10 @@ pub record PlaceOf (o : Option Job) (p : Place) : Type 0 where
   pub grade : p .grade ≡ grade-of o
   pub last : p .last .0 ≡ last-of o
 
--- the job that the slot bakes of those that are seen, and their counts
+-- the job that the slot bakes of those that are seen, their shortfall, and their counts
 pub record BakedSeen (b : Board) (r : Baked) : Type 0 where
   pub ticket : r .ticket ≡ ticket-of (bakes-seen b)
   pub grade : r .grade ≡ grade-of (bakes-seen b)
   pub last : r .last .0 ≡ last-of (bakes-seen b)
+  pub shortfall : r .shortfall ≡ shortfall (slot-of b) (seen b)
   pub counts : Counted (slot-of b) (seen b) (r .counts)

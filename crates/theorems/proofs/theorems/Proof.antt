@@ -3,12 +3,16 @@ use Rattle.rule.proofs.Worked.{worked}
 use Rattle.books.proofs.Levels.Characterised.{characterised}
 use Rattle.books.proofs.Levels.NeverIdle.{never-idle}
 use Rattle.books.proofs.Levels.LeastLastSlot.{least-last-level0, least-last-not-level1}
+use Rattle.feasibility.proofs.Slots.{baked-somewhere}
+use Rattle.feasibility.proofs.Fewest.{shortfall-fewest}
+use Rattle.feasibility.proofs.AllBaked.{zero-suffices}
 use Rattle.board.proofs.Soundness.FreePlace.{free-place}
 use Rattle.board.proofs.Calls.SoundAfterOpening.{opened-sound, opened-count}
 use Rattle.claims.proofs.SoundKept.{sound-kept}
 use Rattle.claims.proofs.Unbeaten.{demand3}
 use Rattle.claims.proofs.Tallying.InBalance.{balance}
 use Rattle.claims.proofs.GivenUpInOrder.{given-up-in-order}
+use Rattle.claims.proofs.Shortfall.{board-shortfall}
 use Rattle.lines.proofs.ByteByByte.{byte-by-byte}
 use Rattle.lines.proofs.NeverMet.{never-met}
 use Rattle.lines.proofs.NeverMet.MayMeet.{opened-shallow}
@@ -23,6 +27,10 @@ returns c =
       demand3 = demand3;
       balance = balance;
       given-up-in-order = given-up-in-order;
+      shortfall-fewest = shortfall-fewest;
+      board-shortfall = board-shortfall;
+      baked-somewhere = baked-somewhere;
+      zero-suffices = zero-suffices;
       characterised = characterised;
       never-idle = never-idle;
       least-last-level0 = least-last-level0;

@@ -15,33 +15,33 @@ mul-result : tie.Need-mul-result
 unfolding deepest
 mul-result c =
     let s = c .before .before in
-    omega (arith, start-small deepest (s .args .left) (s .args .start) (s .pre .0))
+    omega (arith, start-small deepest (s .args .left) (s .args .start) (s .pre .0 .0))
 
 returns : tie.Need-returns
 returns c =
     let s = c .before .before in
     let a = s .args in
     let z = c .before .has-zero in
-    (next-is-zero (now (a .counts)) (a .start) (a .left) (s .pre .1) (z .result) (z .ensures) (c .if1 .taken), omega (arith, next-fits (a .left) (a .start) (s .pre .1)))
+    (next-is-zero (now (a .counts)) (a .start) (a .left) (s .pre .0 .1) (z .result) (z .ensures) (c .if1 .taken), omega (arith, next-fits (a .left) (a .start) (s .pre .0 .1)))
 
 mul-result-2 : tie.Need-mul-result-2
 unfolding deepest
 mul-result-2 c =
     let s = c .before .before in
-    omega (arith, start-small deepest (s .args .left) (s .args .start) (s .pre .0))
+    omega (arith, start-small deepest (s .args .left) (s .args .start) (s .pre .0 .0))
 
 add-result : tie.Need-add-result
 unfolding deepest
 add-result c =
     let s = c .before .before in
-    omega (arith, start-small deepest (s .args .left) (s .args .start) (s .pre .0))
+    omega (arith, start-small deepest (s .args .left) (s .args .start) (s .pre .0 .0))
 
 returns-2 : tie.Need-returns-2
 returns-2 c =
     let s = c .before .before in
     let a = s .args in
     let z = c .before .has-zero in
-    (next-is-one (now (a .counts)) (a .start) (a .left) (s .pre .1) (z .result) (z .ensures) (c .if1 .left), omega (arith, next-fits (a .left) (a .start) (s .pre .1)))
+    (next-is-one (now (a .counts)) (a .start) (a .left) (s .pre .0 .1) (z .result) (z .ensures) (c .if1 .left), omega (arith, next-fits (a .left) (a .start) (s .pre .0 .1)))
 
 pub next-start-spec : {M : Type 1} → statement M
 next-start-spec =

@@ -1,21 +1,10 @@
 -- `search::tight::is_better`: the first excess, or smaller than the best so far. Assumes nothing.
 use borrow.Author.Needs.{needs}
 use borrow.Author.Tests.{eq-eqb, ne-eqb}
-use mathlib.Core.Path.{_≡_}
-use mathlib.Core.List.{List}
-use mir.Syntax.{w32}
-use mir.Val.{Val, toZ, ofZ}
 use mir.Facts.{toZ-ofZ}
-use denote.Laws.{Is}
-use denote.Struct.Declared.{row}
-use Rattle.search.specs.declared.tight.Best.{Best}
-use Rattle.search.proofs.tight.Best.{the-type}
+use Rattle.search.proofs.Known.{excess-known}
 use Rattle.search.proofs.tight.is_better.Statement.{statement}
 use Rattle.search.proofs.tight.is_better.Tie as tie
-
--- what holding a `Best` tells: its excess is an i32
-excess-known : (best : Best) (vs : List Val) → Is (row the-type) best vs → toZ w32 (ofZ w32 (best .excess)) ≡ best .excess
-excess-known best vs g = toZ-ofZ (record { sfits = g .1 .1 .0 .1 })
 
 returns : tie.Need-returns
 returns c = simp (eq-eqb _ 0 (c .if1 .taken))

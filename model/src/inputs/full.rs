@@ -1,0 +1,74 @@
+//! Days on which the board is about full.
+
+use super::writer::Writer;
+use crate::board::{self, worst_grade, Board, Job};
+use crate::calls;
+use crate::draw::Draw;
+use crate::limits::{DEEPEST, LONGEST_LAXITY, MOST_HELD, MOST_PER_SLOT};
+use crate::shortfall;
+
+/// A day and the board as its lines leave it.
+struct Hovering {
+    writer: Writer,
+    board: Board,
+}
+
+/// How many racks come in a slot: for how many more of their kind room is left, and
+/// how many are lost at the most.
+const LEVELS: [(usize, u32); 7] = [(2, 0), (1, 0), (0, 0), (0, 1), (0, 2), (0, 3), (0, 9)];
+
+/// A board that hovers about full. Most racks of a turn have the turn's last slot;
+/// from slot to slot there are fewer of them than fit, just as many, or a few more.
+pub fn shortfall(draw: &mut Draw, slots: u32) -> Vec<u8> {
+    let mut day = Hovering::opened(draw);
+    let turn = draw.pick(&[1, 3, 8, 16, LONGEST_LAXITY, LONGEST_LAXITY]);
+    let mut level = 0;
+    for slot in 0..slots {
+        let left = turn - slot % turn;
+        if left == turn {
+            level = draw.index(4);
+        } else if draw.one_in(6) {
+            level = (level + 1).min(LEVELS.len() - 1);
+        }
+        for _ in 0..MOST_PER_SLOT {
+            let any = draw.between(1, LONGEST_LAXITY);
+            let laxity = if draw.one_in(30) { any } else { left };
+            day.admit_up_to(draw, laxity, LEVELS[level]);
+        }
+        day.close();
+    }
+    day.writer.bytes
+}
+
+impl Hovering {
+    fn opened(draw: &mut Draw) -> Hovering {
+        let mut writer = Writer::new();
+        writer.open(draw.between(0, DEEPEST));
+        let board = board::open(writer.depth).0;
+        Hovering { writer, board }
+    }
+
+    /// Admits a rack with this wait, unless the board is as full as this already.
+    fn admit_up_to(&mut self, draw: &mut Draw, laxity: u32, (room, lost): (usize, u32)) {
+        let slot = self.board.slot;
+        let newcomer = Job {
+            deadline: slot + laxity - 1,
+            ..Job::default()
+        };
+        let mut jobs = self.board.jobs().to_vec();
+        jobs.resize(jobs.len() + 1 + room, newcomer);
+        if shortfall::least_given_up(&jobs, slot) > lost {
+            return;
+        }
+        let grade = self.writer.grade(draw);
+        self.writer.admit(draw, laxity, grade);
+        let (ticket, worst) = (self.writer.highest, worst_grade(self.board.depth));
+        calls::admit(&mut self.board, ticket, laxity, grade.unwrap_or(worst))
+            .expect("no more than eight come");
+    }
+
+    fn close(&mut self) {
+        self.writer.close();
+        calls::close(&mut self.board, MOST_HELD).expect("the book has not ended");
+    }
+}
