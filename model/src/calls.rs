@@ -26,8 +26,8 @@ pub struct Closed {
     /// The racks given up, 'by grade from best to worst, within a grade by rising
     /// ticket' (02, Four).
     pub expired: Vec<Expired>,
-    /// The least number of the racks on the board before the bake that any plan
-    /// gives up (02, Five). 'An empty board has shortfall zero.'
+    /// The least number of the racks on the board before the bake, whatever their
+    /// grades, that any plan gives up (02, Five). 'An empty board has shortfall zero.'
     pub shortfall: u32,
 }
 

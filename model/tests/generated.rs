@@ -82,7 +82,7 @@ fn the_books_end_is_refused() {
 
 #[test]
 fn good_days_are_hardly_refused() {
-    for name in ["ordinary", "given-up", "ties", "long"] {
+    for name in ["ordinary", "given-up", "ties", "long", "shortfall"] {
         for seed in 0..20 {
             let seen = refusals(&text(&kind(name).input(seed, None)));
             assert_eq!(seen, BTreeSet::new(), "{name} {seed}");

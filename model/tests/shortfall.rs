@@ -2,13 +2,13 @@
 
 mod common;
 
-use common::{answers, closed_slots, printed, worked, Closing};
+use common::{answers, closed_slots, printed, smallest_excess, worked, Closing};
 use model::board::{open, Board, Job};
 use model::calls::{admit, close, close_with};
 use model::draw::Draw;
 use model::limits::{LAST_SLOT, MOST_HELD};
 use model::refusal::Refusal;
-use model::rule::{excess, first_due, group, tight_laxity};
+use model::rule::{first_due, group};
 use model::samples;
 use model::shortfall::least_given_up;
 
@@ -47,12 +47,6 @@ fn held(slot: u32, waits: &[u32]) -> Board {
 fn held_for_long(slot: u32, many: usize) -> Board {
     let waits = (0..many).map(|place| 32 - (many - 1 - place) as u32 / 8);
     held(slot, &waits.collect::<Vec<_>>())
-}
-
-/// The smallest excess of the racks on a board.
-fn smallest_excess(board: &Board) -> i64 {
-    let tight = tight_laxity(board.jobs(), board.slot).expect("racks");
-    excess(board.jobs(), board.slot, tight)
 }
 
 #[test]
@@ -245,7 +239,7 @@ fn an_excess_above_zero_is_no_shortfall() {
         (&[8, 8, 8, 8, 8, 8, 8, 8], 0),
     ] {
         let board = held(50, waits);
-        assert_eq!(smallest_excess(&board), smallest);
+        assert_eq!(smallest_excess(board.jobs(), 50), Some(smallest));
         assert_eq!(shortfall(&board), 0);
     }
 }

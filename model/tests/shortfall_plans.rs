@@ -5,13 +5,13 @@ mod common;
 
 use std::collections::BTreeSet;
 
-use common::{book_from, least_by_matching, Closing};
+use common::{book_from, least_by_matching, smallest_excess, Closing};
 use model::board::{Board, Job};
 use model::draw::Draw;
 use model::limits::{LAST_SLOT, LONGEST_LAXITY, MOST_HELD};
 use model::list::{play, Answer, Call};
 use model::plans::{is_plan, most_baked_by_trying};
-use model::rule::{excess, laxity, tight_laxity};
+use model::rule::laxity;
 use model::samples;
 use model::shortfall::{laid_out, least_given_up};
 
@@ -122,7 +122,6 @@ fn every_plan_of_small_boards() {
     }
     assert!(all.rarest() > 1_000, "{all:?}");
     assert!(one_by_one.rarest() > 500, "{one_by_one:?}");
-    eprintln!("{all:?} {one_by_one:?}");
 }
 
 #[test]
@@ -143,7 +142,6 @@ fn the_list_of_every_plan() {
         seen.count(&closing);
     }
     assert!(seen.rarest() > 100, "{seen:?}");
-    eprintln!("{seen:?}");
 }
 
 /// A large board: of any size, about full, or with all 256 racks.
@@ -161,7 +159,7 @@ fn large_board(draw: &mut Draw, number: u32) -> Board {
 fn a_matching_on_large_boards() {
     let mut draw = Draw::new(73);
     let mut seen = Seen::default();
-    let (mut full, mut just_full, mut one) = (0, 0, 0);
+    let (mut full, mut roomy, mut one) = (0, 0, 0);
     for number in 0..4_000 {
         let board = large_board(&mut draw, number);
         let closing = Closing::of(&board);
@@ -169,13 +167,12 @@ fn a_matching_on_large_boards() {
         assert_eq!(shortfall, least_by_matching(board.jobs(), board.slot));
         seen.count(&closing);
         full += usize::from(board.held() == MOST_HELD);
-        just_full += usize::from(shortfall == 0 && board.held() > 10);
+        roomy += usize::from(shortfall == 0 && board.held() > 10);
         one += usize::from(shortfall == 1);
     }
     assert!(seen.rarest() > 2_000, "{seen:?}");
-    let some = [full, just_full, one];
+    let some = [full, roomy, one];
     assert!(some.iter().all(|&boards| boards > 100), "{some:?}");
-    eprintln!("{seen:?} {some:?}");
 }
 
 #[test]
@@ -201,11 +198,6 @@ fn by_excess(smallest: Option<i64>) -> u32 {
     }
 }
 
-fn smallest_excess(jobs: &[Job], slot: u32) -> Option<i64> {
-    let tight = tight_laxity(jobs, slot)?;
-    Some(excess(jobs, slot, tight))
-}
-
 #[test]
 fn the_size_of_the_smallest_excess_below_zero() {
     let mut draw = Draw::new(75);
@@ -225,7 +217,6 @@ fn the_size_of_the_smallest_excess_below_zero() {
     // Excess -2 or less, -1, 0, 1, 2 or more.
     assert!(seen[0] > 10_000, "{seen:?}");
     assert!(seen[1..].iter().all(|&boards| boards > 500), "{seen:?}");
-    eprintln!("{seen:?}");
 }
 
 #[test]
@@ -251,5 +242,4 @@ fn if_nothing_more_arrives_the_board_gives_up_just_so_many() {
         assert_eq!((still, board.count), (0, 0));
     }
     assert!(tried > 1_500, "{tried}");
-    eprintln!("{tried}");
 }

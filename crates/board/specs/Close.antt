@@ -37,12 +37,15 @@ moved-on-with b t = thinned b (slot-of b + 1) (stays (slot-of b) t)
 unfoldable pub shortfall-of : Board → ℕ
 shortfall-of b = shortfall (slot-of b) (held b)
 
--- the answer with the job o baked, so many jobs listed and this shortfall, by the number of the refusal; 'a refusal hands back the board [..] unchanged;
--- whatever else the answer holds besides the number is then 0'
+-- 'a refusal hands back the board [..] unchanged; whatever else the answer holds besides the number is then 0'
+abbrev pub close-refused : (number : ℕ) → Board → Closed
+close-refused n b = record { refusal = n; ticket = 0; grade = 0; listed = 0; shortfall = 0; board = b }
+
+-- the answer with the job o baked, so many jobs listed and this shortfall, by the number of the refusal
 unfoldable pub closed-with : (number : ℕ) → Board → Option Job → (listed short : ℕ) → Closed
 closed-with zero b o n s =
     record { refusal = 0; ticket = ticket-of o; grade = grade-of o; listed = n; shortfall = s; board = moved-on-with b (ticket-of o) }
-closed-with (suc k) b o n s = record { refusal = suc k; ticket = 0; grade = 0; listed = 0; shortfall = 0; board = b }
+closed-with (suc k) b o n s = close-refused (suc k) b
 
 -- 'Closing a slot bakes that rack': the rule's
 unfoldable pub bakes : Board → Option Job

@@ -3,20 +3,20 @@
 //! `cases COUNT SEED` prints COUNT lines of each of two forms, all numbers in
 //! decimal, one space between words.
 //!
-//! `board DEPTH SLOT HIGHEST ; JOB ; JOB ... => TICKET GRADE ; EXPIRED ; ...`
+//! `board DEPTH SLOT HIGHEST ; JOB ; JOB ... => TICKET GRADE SHORTFALL ; EXPIRED ; ...`
 //! is a sound board and its closing with a list that is long enough. Before the
 //! arrow are the board's depth, slot and highest ticket, then its racks in board
 //! order, JOB being `TICKET ADMITTED LAST GRADE`. After it are ticket and grade
-//! of the rack baked, 0 0 for an empty board, then the racks given up, by grade
-//! from best to worst, within a grade by rising ticket, EXPIRED being `TICKET
-//! ADMITTED GRADE`. On every second board each rack is in its last slot.
+//! of the rack baked and the shortfall, 0 0 0 for an empty board, then the racks
+//! given up, by grade from best to worst, within a grade by rising ticket, EXPIRED
+//! being `TICKET ADMITTED GRADE`. On every second board each rack is in its last slot.
 //!
 //! `book DEPTH SLOT HIGHEST ; CALL ; CALL ... => ANSWER ; ANSWER ... | K0 K1 ...`
 //! is a list of calls on an empty board. CALL is `A TICKET WAIT GRADE` or
 //! `B LENTLENGTH`. There is one ANSWER a call: `A LASTSLOT`, `R NUMBER` for a
-//! refusal, or `B TICKET GRADE GIVENUP` with the number given up. K0, K1, ... is
-//! the most that any plan of the day book bakes in the first 0, 1, ... slots, up
-//! to the slots closed.
+//! refusal, or `B TICKET GRADE GIVENUP SHORTFALL` with the number given up and the
+//! shortfall. K0, K1, ... is the most that any plan of the day book bakes in the first
+//! 0, 1, ... slots, up to the slots closed.
 
 use std::env;
 use std::io::{self, BufWriter, Write};
@@ -71,7 +71,8 @@ fn board_case(mut board: Board) -> String {
         ));
     }
     let closed = calls::close(&mut board, MOST_HELD).expect("the board is sound");
-    let mut answered = vec![format!("{} {}", closed.ticket, closed.grade)];
+    let (ticket, grade, shortfall) = (closed.ticket, closed.grade, closed.shortfall);
+    let mut answered = vec![format!("{ticket} {grade} {shortfall}")];
     for job in &closed.expired {
         answered.push(format!("{} {} {}", job.ticket, job.admitted, job.grade));
     }
@@ -110,8 +111,9 @@ fn answer_words(answer: &Answer) -> String {
     match answer {
         Answer::Admitted(deadline) => format!("A {deadline}"),
         Answer::Closed(closed) => {
+            let (ticket, grade, shortfall) = (closed.ticket, closed.grade, closed.shortfall);
             let given_up = closed.expired.len();
-            format!("B {} {} {given_up}", closed.ticket, closed.grade)
+            format!("B {ticket} {grade} {given_up} {shortfall}")
         }
         Answer::Refused(refusal) => format!("R {}", refusal.number()),
     }

@@ -1,4 +1,4 @@
-//! Days on which the board is about full.
+//! Days on which the board is about full, so that now one rack more is lost, now none.
 
 use super::writer::Writer;
 use crate::board::{self, worst_grade, Board, Job};
@@ -7,18 +7,19 @@ use crate::draw::Draw;
 use crate::limits::{DEEPEST, LONGEST_LAXITY, MOST_HELD, MOST_PER_SLOT};
 use crate::shortfall;
 
-/// A day and the board as its lines leave it.
+/// A day so far, and the board as its lines leave it. Past the book's end they are
+/// refused, and the board stays as it is.
 struct Hovering {
     writer: Writer,
     board: Board,
 }
 
-/// How many racks come in a slot: for how many more of their kind room is left, and
-/// how many are lost at the most.
+/// How many racks come: until there is room for no more of their kind than so many,
+/// and as long as no more are lost than so many.
 const LEVELS: [(usize, u32); 7] = [(2, 0), (1, 0), (0, 0), (0, 1), (0, 2), (0, 3), (0, 9)];
 
-/// A board that hovers about full. Most racks of a turn have the turn's last slot;
-/// from slot to slot there are fewer of them than fit, just as many, or a few more.
+/// Turns of up to 32 slots. Nearly every rack of a turn has the turn's last slot; at
+/// first fewer come than fit, or just as many, and later on a few more.
 pub fn shortfall(draw: &mut Draw, slots: u32) -> Vec<u8> {
     let mut day = Hovering::opened(draw);
     let turn = draw.pick(&[1, 3, 8, 16, LONGEST_LAXITY, LONGEST_LAXITY]);
@@ -48,7 +49,7 @@ impl Hovering {
         Hovering { writer, board }
     }
 
-    /// Admits a rack with this wait, unless the board is as full as this already.
+    /// Admits a rack with this wait, unless too little room is left or too many are lost.
     fn admit_up_to(&mut self, draw: &mut Draw, laxity: u32, (room, lost): (usize, u32)) {
         let slot = self.board.slot;
         let newcomer = Job {
@@ -63,12 +64,11 @@ impl Hovering {
         let grade = self.writer.grade(draw);
         self.writer.admit(draw, laxity, grade);
         let (ticket, worst) = (self.writer.highest, worst_grade(self.board.depth));
-        calls::admit(&mut self.board, ticket, laxity, grade.unwrap_or(worst))
-            .expect("no more than eight come");
+        let _ = calls::admit(&mut self.board, ticket, laxity, grade.unwrap_or(worst));
     }
 
     fn close(&mut self) {
         self.writer.close();
-        calls::close(&mut self.board, MOST_HELD).expect("the book has not ended");
+        let _ = calls::close(&mut self.board, MOST_HELD);
     }
 }

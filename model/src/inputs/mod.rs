@@ -101,7 +101,7 @@ pub const KINDS: [Kind; 14] = [
     },
     Kind {
         name: "shortfall",
-        about: "a board about full: a rack fewer than fits, all that fit, one or a few more",
+        about: "boards about full: a rack fewer than fits, just as many, or a few more",
         size: 100,
         make: full::shortfall,
     },

@@ -15,6 +15,7 @@ use model::lines::next_line;
 use model::list::{play_with, Answer, Call};
 use model::plans::{is_unbeaten, most_baked, plan_of, Plan};
 use model::printing;
+use model::rule::{excess, tight_laxity};
 use model::samples::{self, Crowd};
 
 /// A way to name the rack to bake from racks, slot and depth.
@@ -129,6 +130,12 @@ pub fn beaten(pick: Pick, trials: usize) -> usize {
         }
     }
     beaten
+}
+
+/// The smallest excess of these racks; none where there are no racks.
+pub fn smallest_excess(jobs: &[Job], slot: u32) -> Option<i64> {
+    let tight = tight_laxity(jobs, slot)?;
+    Some(excess(jobs, slot, tight))
 }
 
 /// A closing: the racks before it, its slot, its answer, the racks after it.

@@ -5,6 +5,7 @@ use Prim.Native.Nat.{ℕ}
 use lib.Dec.{eqb}
 use Rattle.lists.specs.Select.{select, how-many}
 use Rattle.rule.specs.Job.{Job}
+use Rattle.rule.specs.Shortfall.{shortfall}
 use Rattle.rule.specs.Bake.{expires, ticket-of, grade-of}
 use Rattle.board.specs.declared.Board.{Board}
 use Rattle.board.specs.declared.Closed.{Closed}
@@ -32,7 +33,7 @@ bounds-seen b =
 
 -- a closing with the job that the search sees
 unfoldable pub closed-in-limits : Board → (lent : ℕ) → Closed
-closed-in-limits b lent = closed-with (close-number-in-limits b lent) b (bakes-seen b) (bounds-seen b tally-grades)
+closed-in-limits b lent = closed-with (close-number-in-limits b lent) b (bakes-seen b) (bounds-seen b tally-grades) (shortfall (slot-of b) (seen b))
 
 -- what such a closing promises, with its list as it was before and is after
 pub record ClosedInLimits (b : Board) (before after : Lent) (r : Closed) : Type 0 where
