@@ -16,10 +16,9 @@ pub fn least_given_up(jobs: &[Job], slot: u32) -> u32 {
 /// left free between them. The racks are taken by last slot, and each is laid into
 /// the first free slot, unless that is after its last: then it is given up.
 ///
-/// No plan gives up fewer. Take the last rack that is given up here. All slots up to
-/// its last one went to racks taken before it, so due no later, and every other rack
-/// due by then is given up. A plan has just these slots for all of them, and none of
-/// the later racks is given up here.
+/// No plan gives up fewer. Take the last rack that is given up here: the racks taken
+/// up to it are all that are due by its last slot, and every slot up to that has one
+/// of them. A plan has no other slots for them, and of the rest none is given up here.
 pub fn laid_out(jobs: &[Job], slot: u32) -> Vec<Job> {
     let mut by_deadline = jobs.to_vec();
     by_deadline.sort_by_key(|job| job.deadline);

@@ -3,11 +3,11 @@ use mathlib.Core.Bool.{Bool, _&&_}
 use mathlib.Core.List.{List, [], _∷_}
 use Prim.Native.Nat.{ℕ, _+_, _*_}
 use lib.Dec.{eqb, leb}
-use Rattle.board.specs.declared.Slot.{Slot}
 use Rattle.board.specs.Limits.{places-held}
 use Rattle.board.specs.Tally.{tally-grades}
 use Rattle.lines.specs.Session.{Named, Closing, Answer, a-refusal, an-opening, an-admitting, a-closing}
 use Rattle.printing.specs.Lines.{room}
+use Rattle.answers.specs.declared.Closing.{Closing as ClosingHeld}
 use Rattle.answers.specs.declared.Answer.{Answer as AnswerHeld}
 use Rattle.answers.specs.declared.Answer.the-variants.{Refused, Opened, Admitted, Closed}
 
@@ -17,15 +17,16 @@ jobs-of [] G = []
 jobs-of (t ∷ T) [] = []
 jobs-of (t ∷ T) (g ∷ G) = record { ticket = t; grade = g } ∷ jobs-of T G
 
-abbrev pub closing-of : Slot → (ticket grade : ℕ) → (tickets grades : List ℕ) → Closing
-closing-of k t g T G = record { slot = k .0; baked = record { ticket = t; grade = g }; given-up = jobs-of T G }
+abbrev pub closing-of : ClosingHeld → (tickets grades : List ℕ) → Closing
+closing-of c T G =
+    record { slot = c .slot .0; baked = record { ticket = c .ticket; grade = c .grade }; given-up = jobs-of T G; shortfall = c .shortfall }
 
 -- the answer that the code holds, with the jobs given up in two lists
 unfoldable pub answer-of : AnswerHeld → (tickets grades : List ℕ) → Answer
 answer-of (Refused n) T G = a-refusal n
 answer-of (Opened d) T G = an-opening d
 answer-of (Admitted t k) T G = an-admitting t (k .0)
-answer-of (Closed k t g) T G = a-closing (closing-of k t g T G)
+answer-of (Closed c) T G = a-closing (closing-of c T G)
 
 -- `ANSWER_ROOM`: bytes that are enough for any answer, which are those of a B line, and of a G line for each job that a board holds
 unfoldable pub answer-room : ℕ

@@ -14,13 +14,20 @@ use board::Slot;
 use board::Tally;
 use printing::Line;
 
-// What a line is answered: the number of a refusal; the depth opened; the ticket admitted and its last slot; the slot closed, and the ticket and
-// grade baked. The jobs given up stand beside it in two lists, tickets and grades.
+// A slot closed: the ticket and grade baked, and the shortfall. The jobs given up stand beside it in two lists, tickets and grades.
+pub struct Closing {
+    pub slot: Slot,
+    pub ticket: u32,
+    pub grade: u8,
+    pub shortfall: u32,
+}
+
+// What a line is answered: the number of a refusal; the depth opened; the ticket admitted and its last slot; the slot closed.
 pub enum Answer {
     Refused(u8),
     Opened(u32),
     Admitted(u32, Slot),
-    Closed(Slot, u32, u8),
+    Closed(Closing),
 }
 
 // Bytes that are enough for any answer: a B line, and a G line for each job that a board holds.
@@ -62,9 +69,7 @@ fn print_given_up(slot: Slot, tickets: &[u32], grades: &[u8], out: &mut [u8], at
 
 // Prints a closing: its B line, and then the G lines.
 fn print_closing(
-    slot: Slot,
-    ticket: u32,
-    grade: u8,
+    closing: Closing,
     tickets: &[u32],
     grades: &[u8],
     out: &mut [u8],
@@ -72,18 +77,20 @@ fn print_closing(
 ) -> usize
     requires { ⌜ Fits (now tickets) (now grades) at (now out) ⌝ }
     ensures { λ r.
-        let lines = printed-closing (closing-of slot ticket grade (now (tickets .entry)) (now (grades .entry))) in
+        let lines = printed-closing (closing-of closing (now (tickets .entry)) (now (grades .entry))) in
         ⌜ PutWithin answer-room lines (now (out .entry)) at r (now (out .exit)) ⌝ }
 {
+    let slot = closing.slot;
     let mid = print_at(
         out,
         at,
         b'B',
         &[
             slot.0 as u64,
-            ticket as u64,
-            grade as u64,
+            closing.ticket as u64,
+            closing.grade as u64,
             tickets.len() as u64,
+            closing.shortfall as u64,
         ],
     );
     print_given_up(slot, tickets, grades, out, mid)
@@ -120,15 +127,7 @@ fn print_fitting(
         Answer::Refused(n) => print_at(out, at, b'R', &[number, n as u64]),
         Answer::Opened(depth) => print_at(out, at, b'D', &[depth as u64]),
         Answer::Admitted(ticket, last) => print_at(out, at, b'A', &[ticket as u64, last.0 as u64]),
-        Answer::Closed(slot, ticket, grade) => print_closing(
-            slot,
-            ticket,
-            grade,
-            tickets,
-            grades,
-            out,
-            at,
-        ),
+        Answer::Closed(closing) => print_closing(closing, tickets, grades, out, at),
     }
 }
 

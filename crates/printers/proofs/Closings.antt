@@ -57,18 +57,19 @@ unfolding figures-in answer-of
 no-closing (Refused n) T G h = refl
 no-closing (Opened d) T G h = refl
 no-closing (Admitted t k) T G h = refl
-no-closing (Closed k t g) T G h = absurd (miss (0 ∷ 1 ∷ 2 ∷ []) 3 tt h)
+no-closing (Closed c) T G h = absurd (miss (0 ∷ 1 ∷ 2 ∷ []) 3 tt h)
 
 pub page-as-it-was : (a : AnswerHeld) (p : Page) (l : ℕ) → OneOf (0 ∷ 1 ∷ 2 ∷ []) (tagOf the-type a) → page-held p a l ≡ p
 unfolding page-held
 page-as-it-was (Refused n) p l h = refl
 page-as-it-was (Opened d) p l h = refl
 page-as-it-was (Admitted t k) p l h = refl
-page-as-it-was (Closed k t g) p l h = absurd (miss (0 ∷ 1 ∷ 2 ∷ []) 3 tt h)
+page-as-it-was (Closed c) p l h = absurd (miss (0 ∷ 1 ∷ 2 ∷ []) 3 tt h)
 
 -- an answer is a closing with these figures
 pub record IsClosing (a : AnswerHeld) (T G : List ℕ) (f : FiguresHeld) : Type 0 where
-  pub closed : a ≡ Closed (f .slot) (f .ticket) (f .grade)
+  pub short : ℕ
+  pub closed : a ≡ Closed (record { slot = f .slot; ticket = f .ticket; grade = f .grade; shortfall = short })
   pub listed : f .listed ≡ length T
   pub as-many : length G ≡ length T
 

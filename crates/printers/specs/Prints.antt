@@ -27,7 +27,7 @@ unfoldable pub page-held : Page → AnswerHeld → (listed : ℕ) → Page
 page-held p (Refused n) l = p
 page-held p (Opened d) l = p
 page-held p (Admitted t k) l = p
-page-held p (Closed k t g) l = handed-over p (record { slot = k; ticket = t; grade = g; listed = l }) .page
+page-held p (Closed c) l = handed-over p (record { slot = c .slot; ticket = c .ticket; grade = c .grade; listed = l }) .page
 
 -- what each program's printer holds after it
 unfoldable pub held-by : ProgramRun → PrinterHeld → AnswerHeld → (listed : ℕ) → PrinterHeld

@@ -89,13 +89,14 @@ fn print_on_page(
     if !answers::answer_fits(tickets.len(), grades.len(), at, out.len()) {
         return Printed { printer, at };
     }
-    let Answer::Closed(slot, ticket, grade) = answer else {
+    let Answer::Closed(closing) = answer else {
         return Printed { printer, at };
     };
+    let slot = closing.slot;
     let figures = Figures {
         slot,
-        ticket,
-        grade: grade as u32,
+        ticket: closing.ticket,
+        grade: closing.grade as u32,
         listed: tickets.len() as u32,
     };
     let page = printer.page;

@@ -7,9 +7,9 @@ use lib.ListN.{length, take, drop, replicate}
 use Rattle.lines.specs.Bytes.{Bytes}
 use Rattle.printing.specs.declared.Line.{Line}
 
--- `Line::NUMBERS`: the most numbers of a line, as 'B,slot,ticket,grade,number given up' has
+-- `Line::NUMBERS`: the most numbers of a line, as 'B,slot,ticket,grade,number given up,shortfall' has
 unfoldable pub line-numbers : ℕ
-line-numbers = 4
+line-numbers = 5
 
 -- `Line::DIGITS`: the most digits of a number of 64 bits
 unfoldable pub line-digits : ℕ

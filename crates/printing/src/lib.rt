@@ -16,7 +16,7 @@ pub struct Line {
 
 impl Line {
     // Numbers of a line, at the most.
-    pub const NUMBERS: usize = 4;
+    pub const NUMBERS: usize = 5;
 
     // Digits of a number, at the most.
     pub const DIGITS: usize = 20;

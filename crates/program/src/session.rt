@@ -10,6 +10,7 @@ ghost use Rattle.fields.specs.Grades.{grade-of};
 ghost use Rattle.answers.specs.Printed.{answer-room};
 ghost use Rattle.program.specs.Inner.Days.{session-of, GoodDay, Did, DidAlone, Answered};
 use answers::Answer;
+use answers::Closing;
 use board::Board;
 use board::Laxity;
 use board::Tally;
@@ -130,7 +131,13 @@ fn close_line(day: Day, tickets: &mut [u32], grades: &mut [u8], slots: &mut [u32
         tally,
     };
     let slot = b.slot;
-    let answer = Answer::Closed(slot, c.ticket, c.grade);
+    let closing = Closing {
+        slot,
+        ticket: c.ticket,
+        grade: c.grade,
+        shortfall: c.shortfall,
+    };
+    let answer = Answer::Closed(closing);
     Stepped {
         day: next,
         answer,

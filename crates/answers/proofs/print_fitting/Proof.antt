@@ -20,8 +20,8 @@ said i T G e = ap (λ (x : Answer). printed-answer i (answer-of x T G)) e
 enum-known-answer : tie.Need-enum-known-answer
 enum-known-answer c = search needs
 
-cast-t18 : tie.Need-cast-t18
-cast-t18 c = search needs
+cast-t16 : tie.Need-cast-t16
+cast-t16 c = search needs
 
 slice-aggregate-print-at : tie.Need-slice-aggregate-print-at
 slice-aggregate-print-at c = search needs
@@ -33,8 +33,8 @@ print-at-requires c κs = search needs
 enum-known-answer-2 : tie.Need-enum-known-answer-2
 enum-known-answer-2 c = search needs
 
-cast-t24 : tie.Need-cast-t24
-cast-t24 c = search needs
+cast-t22 : tie.Need-cast-t22
+cast-t22 c = search needs
 
 slice-aggregate-print-at-2 : tie.Need-slice-aggregate-print-at-2
 slice-aggregate-print-at-2 c = search needs
@@ -46,11 +46,11 @@ print-at-requires-2 c κs = search needs
 enum-known-answer-3 : tie.Need-enum-known-answer-3
 enum-known-answer-3 c = search needs
 
-cast-t30 : tie.Need-cast-t30
-cast-t30 c = search needs
+cast-t28 : tie.Need-cast-t28
+cast-t28 c = search needs
 
-cast-t31 : tie.Need-cast-t31
-cast-t31 c = search needs
+cast-t29 : tie.Need-cast-t29
+cast-t29 c = search needs
 
 slice-aggregate-print-at-3 : tie.Need-slice-aggregate-print-at-3
 slice-aggregate-print-at-3 c = search needs
@@ -98,16 +98,16 @@ print-fitting-spec =
     tie.close
     (tie.spec
     enum-known-answer
-    cast-t18
+    cast-t16
     slice-aggregate-print-at
     print-at-requires
     enum-known-answer-2
-    cast-t24
+    cast-t22
     slice-aggregate-print-at-2
     print-at-requires-2
     enum-known-answer-3
-    cast-t30
-    cast-t31
+    cast-t28
+    cast-t29
     slice-aggregate-print-at-3
     print-at-requires-3
     enum-known-answer-4

@@ -8,6 +8,7 @@ use lib.ListN.{length}
 use Rattle.board.specs.Limits.{places-held}
 use Rattle.printing.proofs.Fitting.{fits-put}
 use Rattle.printing.proofs.Pieces.{put-nil, put-fewer}
+use Rattle.answers.specs.declared.Closing.{Closing as ClosingHeld}
 use Rattle.answers.specs.Printed.{answer-room, answer-fits}
 use Rattle.answers.proofs.Room.{AnswerFits, answer-fitting}
 use Rattle.page.specs.declared.Figures.{Figures as FiguresHeld}
@@ -52,12 +53,12 @@ returns-2 c =
     (page-as-it-was (a .answer) (a .printer .page) (length (a .tickets .now)) (c .match .keys2))
     (no-closing (a .answer) (a .tickets .now) (a .grades .now) (c .match .keys2)))
 
-cast-t21 : tie.Need-cast-t21
-cast-t21 c = search needs
+cast-t20 : tie.Need-cast-t20
+cast-t20 c = search needs
 
-cast-t22 : tie.Need-cast-t22
+cast-t21 : tie.Need-cast-t21
 unfolding places-held
-cast-t22 c = omega (arith, known (c .before .before .before) .few)
+cast-t21 c = omega (arith, known (c .before .before .before .before .before) .few)
 
 hand-over-requires : tie.Need-hand-over-requires
 hand-over-requires c κs = search needs
@@ -65,17 +66,20 @@ hand-over-requires c κs = search needs
 -- a closing handed to the page
 module _ (h : tie.After-hand-over) where
   abbrev past : tie.Else1
-  past = h .before .before .before .before .before
+  past = h .before .before .before .before .before .before .before
 
   abbrev start : tie.Start
   start = past .before .before .before .before .before
 
+  abbrev closed : ClosingHeld
+  closed = h .before .before .before .before .before .answer .given .0 .0
+
   -- its figures
   abbrev figures : FiguresHeld
-  figures = let g = h .before .before .before .answer .given .0 in record { slot = g .0; ticket = g .1 .0; grade = g .1 .1 .0; listed = length (start .args .tickets .now) }
+  figures = record { slot = closed .slot; ticket = closed .ticket; grade = closed .grade; listed = length (start .args .tickets .now) }
 
   closing : IsClosing (start .args .answer) (start .args .tickets .now) (start .args .grades .now) figures
-  closing = record { closed = h .before .before .before .answer .given .1; listed = refl; as-many = known past .as-many }
+  closing = record { short = closed .shortfall; closed = h .before .before .before .before .before .answer .given .1; listed = refl; as-many = known past .as-many }
 
 returns-3 : tie.Need-returns-3
 returns-3 c =
@@ -123,8 +127,8 @@ print-on-page-spec =
     returns
     enum-known-answer
     returns-2
+    cast-t20
     cast-t21
-    cast-t22
     hand-over-requires
     returns-3
     is-full-requires

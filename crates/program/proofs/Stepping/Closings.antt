@@ -37,6 +37,7 @@ module _ (day : Day) (c : Closed) (e : c ≡ closed (day .board) places-held) wh
           slot = slot-of (day .board);
           baked = record { ticket = c .ticket; grade = c .grade };
           given-up = map named (given-up (day .board));
+          shortfall = c .shortfall;
         });
         board = some (c .board);
         events = close-events (day .board) places-held;
@@ -58,7 +59,7 @@ module _ (day : Day) (c : Closed) (e : c ≡ closed (day .board) places-held) wh
   pub close-did : (T G : List ℕ) (y : Tally) → sound (day .board) ≡ true → c .refusal ≡ 0 → (n : Entered (day .board) (c .listed) T G)
       → y ≡ fed (fed (day .tally) (baked-events (c .ticket) (c .grade))) (map (event given-up-kind) (take (c .listed) G))
       → Did day (step-close (day .board))
-      (record { day = open-day (c .board) y; answer = SlotClosed (day .board .slot) (c .ticket) (c .grade); listed = c .listed }) T G
+      (record { day = open-day (c .board) y; answer = SlotClosed (record { slot = day .board .slot; ticket = c .ticket; grade = c .grade; shortfall = c .shortfall }); listed = c .listed }) T G
   unfolding session-of session-after GoodDay answer-of
   close-did T G y s h n z =
       did-as (close-step h)
@@ -66,6 +67,6 @@ module _ (day : Day) (c : Closed) (e : c ≡ closed (day .board) places-held) wh
         good = λ _. rw e (closed-sound (day .board) places-held s);
         session = ap (open-session (c .board)) (z ∙ all-fed h (take (c .listed) G) (n .grades));
         few = n .few;
-        answer = ap (λ (A : List Named). a-closing (record { slot = slot-of (day .board); baked = record { ticket = c .ticket; grade = c .grade }; given-up = A }))
+        answer = ap (λ (A : List Named). a-closing (record { slot = slot-of (day .board); baked = record { ticket = c .ticket; grade = c .grade }; given-up = A; shortfall = c .shortfall }))
             (jobs-named (given-up (day .board)) (n .tickets) (n .grades));
       })
