@@ -127,7 +127,8 @@ typedef struct oven_closed {
     uint8_t refusal;
     uint32_t ticket; /* the rack baked; 0 where the board had no racks */
     uint8_t grade;
-    uint32_t given_up; /* how many racks are given up */
+    uint32_t given_up;  /* how many racks are given up */
+    uint32_t shortfall; /* of the racks before the bake, the fewest that any plan gives up if nothing more arrives */
     oven_board board;
 } oven_closed;
 
@@ -163,7 +164,8 @@ bool oven_sound(oven_board board);
 oven_admitted oven_admit(oven_board board, uint32_t ticket, oven_wait wait, uint32_t grade);
 
 /*
- * Closes the present slot: answers the rack to bake, gives up every other rack whose last slot it is, and moves to the next slot.
+ * Closes the present slot: answers the rack to bake and the shortfall, gives up every other rack whose last slot it is, and moves to
+ * the next slot.
  * The racks given up are written from the start of the list that the caller lends, by grade from best to worst, within a grade by
  * rising ticket; the entries after them keep what they had. Refuses with 2, 3 or 8; board and list are then as they were. `list`
  * points to `length` entries.

@@ -20,7 +20,7 @@ const COLUMNS: [&str; 8] = [
     "other of sorting",
 ];
 
-/// The benchmarks are this source linked with either library. Programs: this checkout's, the other's, the model's, the one that sorts. This checkout's
+/// The benchmarks are this source linked with either library, or each checkout's own where the calls' types differ. Programs: this checkout's, the other's, the model's, the one that sorts. This checkout's
 /// lists and outputs are the model's; of the other's it is said in how many places they are not.
 pub fn run(this: &str, other: &str, programs: &[&str]) -> io::Result<()> {
     let closings = calls(this, other)?;
@@ -82,14 +82,14 @@ fn calls(this: &str, other: &str) -> io::Result<usize> {
     Ok(other_lists(&there))
 }
 
-/// The model and the program that sorts are the same in both processes, so their times should be.
+/// Where the model and the program that sorts are the same in both processes, their times should be.
 fn unsteadiness(here: &[Timed], there: &[Timed]) {
     let pairs = here.iter().zip(there);
     let same = pairs.flat_map(|(here, there)| here.times.iter().zip(&there.times).skip(1));
     let mut quotients: Vec<f64> = same.map(|(here, there)| quotient(*here, *there)).collect();
     quotients.sort_by(f64::total_cmp);
     println!(
-        "\nModel and sorting are the same code on both sides: their times here are {:.2} to {:.2} of those there.",
+        "\nModel and sorting, timed beside either side: their times here are {:.2} to {:.2} of those there.",
         quotients[0],
         quotients[quotients.len() - 1]
     );

@@ -102,15 +102,16 @@ fn least(sides: &mut [&mut dyn FnMut()]) -> Vec<Duration> {
 }
 
 fn close_by_sorting(board: &mut Board) -> Closed {
-    let pick = |jobs: &[Job], slot, depth| benchmark::job_to_bake(&mut jobs.to_vec(), slot, depth);
-    calls::close_with(board, 256, pick).expect("a sound board")
+    let find = |jobs: &[Job], slot, depth| benchmark::job_to_bake(&mut jobs.to_vec(), slot, depth);
+    calls::close_by(board, 256, find).expect("a sound board")
 }
 
 fn close_by_model(board: &mut Board) -> Closed {
     calls::close(board, 256).expect("a sound board")
 }
 
-/// All sides close the board, bake the same rack and give up as many. Tells whether our side's lists are the model's, in its order.
+/// All sides close the board, bake the same rack, give up as many and have the same shortfall. Tells whether our side's lists are the model's, in its
+/// order.
 fn check(board: &Board) -> bool {
     let (mut tickets, mut grades, mut slots) = ([0; 256], [0; 256], [Slot(0); 256]);
     let given = convert::board(board);
@@ -119,6 +120,7 @@ fn check(board: &Board) -> bool {
     assert_eq!(model, close_by_sorting(&mut board.clone()));
     assert_eq!((0, model.ticket), (ours.refusal, ours.ticket));
     assert_eq!(model.expired.len(), ours.given_up as usize);
+    assert_eq!(model.shortfall, ours.shortfall);
     let listed = (0..model.expired.len()).map(|i| Expired {
         ticket: tickets[i],
         grade: grades[i].into(),

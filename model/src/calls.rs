@@ -83,10 +83,21 @@ pub fn close_with<P>(board: &mut Board, lent: usize, mut pick: P) -> Result<Clos
 where
     P: FnMut(&[Job], u32, u32) -> Option<Job>,
 {
+    close_by(board, lent, |jobs, slot, depth| {
+        let shortfall = shortfall::least_given_up(jobs, slot);
+        (pick(jobs, slot, depth), shortfall)
+    })
+}
+
+/// Closes the slot with the rack and the shortfall that `find` gives from racks, slot
+/// and depth.
+pub fn close_by<F>(board: &mut Board, lent: usize, mut find: F) -> Result<Closed, Refusal>
+where
+    F: FnMut(&[Job], u32, u32) -> (Option<Job>, u32),
+{
     check_sound(board)?;
     rows::closing(standing(board), lent)?;
-    let shortfall = shortfall::least_given_up(board.jobs(), board.slot);
-    let baked = pick(board.jobs(), board.slot, board.depth);
+    let (baked, shortfall) = find(board.jobs(), board.slot, board.depth);
     let mut expired = Vec::new();
     let mut kept = Vec::new();
     for job in board.jobs() {

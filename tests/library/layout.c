@@ -52,6 +52,7 @@ static void answers(void) {
     FIELD(oven_closed, ticket);
     FIELD(oven_closed, grade);
     FIELD(oven_closed, given_up);
+    FIELD(oven_closed, shortfall);
     FIELD(oven_closed, board);
     STRUCT(oven_counted);
     FIELD(oven_counted, refusal);

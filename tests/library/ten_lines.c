@@ -9,7 +9,7 @@ int main(void) {
     oven_closed closed = oven_close_into(admitted.board, list, OVEN_PLACES);
     oven_figures figures = {admitted.board.slot, closed.ticket, closed.grade, closed.given_up};
     oven_page_print(oven_page_hand_over(oven_page_new(), figures).page, text, OVEN_PAGE_LENGTH);
-    printf("last slot %u, baked %u, given up %u\n", admitted.last.number, closed.ticket, closed.given_up);
+    printf("last slot %u, baked %u, given up %u, shortfall %u\n", admitted.last.number, closed.ticket, closed.given_up, closed.shortfall);
     printf("%.50s", (const char *)text);
     return 0;
 }

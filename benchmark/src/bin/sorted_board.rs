@@ -84,7 +84,8 @@ impl Day {
 
     fn close(&mut self, at: Standing, output: &mut impl Write) -> Taken {
         rows::closing(at, MOST_HELD)?;
-        let baked = benchmark::job_to_bake(&mut self.jobs, at.slot, at.depth).unwrap_or_default();
+        let (baked, shortfall) = benchmark::job_to_bake(&mut self.jobs, at.slot, at.depth);
+        let baked = baked.unwrap_or_default();
         if baked.ticket != 0 {
             self.tally.record(BAKED, baked.grade)?;
         }
@@ -92,7 +93,7 @@ impl Day {
         for job in self.jobs.iter().filter(|job| job.deadline == at.slot) {
             self.tally.record(EXPIRED, job.grade)?;
         }
-        let written = self.write_closed(at.slot, baked, output);
+        let written = self.write_closed(at.slot, baked, shortfall, output);
         self.jobs.retain(|job| job.deadline != at.slot);
         self.standing = Some(Standing {
             slot: at.slot + 1,
@@ -103,13 +104,19 @@ impl Day {
     }
 
     /// Writes a B line, and a G line for each rack given up, by grade from best to worst, within a grade by rising ticket.
-    fn write_closed(&self, slot: u32, baked: Job, output: &mut impl Write) -> io::Result<()> {
+    fn write_closed(
+        &self,
+        slot: u32,
+        baked: Job,
+        shortfall: u32,
+        output: &mut impl Write,
+    ) -> io::Result<()> {
         let given_up = self.jobs.iter().filter(|job| job.deadline == slot);
         let mut given_up: Vec<&Job> = given_up.collect();
         given_up.sort_unstable_by_key(|job| (job.grade, job.ticket));
         writeln!(
             output,
-            "B,{slot},{},{},{}",
+            "B,{slot},{},{},{},{shortfall}",
             baked.ticket,
             baked.grade,
             given_up.len()

@@ -48,7 +48,7 @@ sound-right b s = Bool·beq (sound b) s
 -- an answer as its numbers, the refusal first
 unfoldable pub answer : Board → Call → List ℕ
 answer b (admit t w g) = let r = admitted b t w g in r .refusal ∷ r .last .0 ∷ []
-answer b (close lent) = let r = Close.closed b lent in r .refusal ∷ r .ticket ∷ r .grade ∷ r .listed ∷ []
+answer b (close lent) = let r = Close.closed b lent in r .refusal ∷ r .ticket ∷ r .grade ∷ r .listed ∷ r .shortfall ∷ []
 
 -- a closing's answer, and the jobs given up in the order in which they are listed
 unfoldable pub close-right : Board → List ℕ → List (List ℕ) → Bool

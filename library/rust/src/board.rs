@@ -73,6 +73,9 @@ pub struct Closed {
     pub baked: Option<Baked>,
     /// How many racks were given up: so many entries of the list were written, from its start.
     pub given_up: usize,
+    /// How many racks are lost already: of those on the board before the bake, the fewest that any plan from this slot on gives up if
+    /// nothing more arrives.
+    pub shortfall: usize,
 }
 
 impl Board {
@@ -114,6 +117,7 @@ impl Board {
                 grade: answer.grade,
             }),
             given_up: answer.given_up as usize,
+            shortfall: answer.shortfall as usize,
         })
     }
 }

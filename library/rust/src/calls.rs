@@ -39,6 +39,8 @@ pub struct CloseAnswer {
     pub grade: u8,
     /// How many racks are given up.
     pub given_up: u32,
+    /// Of the racks before the bake, the fewest that any plan gives up if nothing more arrives.
+    pub shortfall: u32,
     /// The board that came back.
     pub board: Board,
 }

@@ -17,6 +17,7 @@
 //! let closed = board.close(&mut list)?;
 //! assert_eq!(closed.baked, Some(Baked { ticket: 3, grade: 0 }));
 //! assert_eq!(list[..closed.given_up], [Entry { ticket: 1, grade: 1, admitted: Slot(1) }]);
+//! assert_eq!(closed.shortfall, 1);
 //! tally.count(Kind::Baked, 0)?;
 //! tally.count(Kind::GivenUp, 1)?;
 //! # Ok::<(), Box<dyn std::error::Error>>(())

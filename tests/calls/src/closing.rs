@@ -99,10 +99,12 @@ fn given_up(answer: &Result<calls::Closed, Refusal>) -> Vec<Entry> {
     expired.map(entry).collect()
 }
 
-/// Whether an answer has the model's number, rack and board.
+/// Whether an answer has the model's number, rack, shortfall and board; 0 for rack and shortfall where it is a refusal.
 fn answers(closed: &CloseAnswer, answer: &Result<calls::Closed, Refusal>, board: &Board) -> bool {
-    let (ticket, grade) = answer.as_ref().map_or((0, 0), |a| (a.ticket, a.grade));
+    let figures = |a: &calls::Closed| (a.ticket, a.grade, a.shortfall);
+    let (ticket, grade, shortfall) = answer.as_ref().map_or((0, 0, 0), figures);
     closed.refusal == number(answer)
+        && closed.shortfall == shortfall
         && closed.ticket == ticket
         && u32::from(closed.grade) == grade
         && closed.given_up as usize == given_up(answer).len()
@@ -121,5 +123,6 @@ fn comfortable(
     Ok(Closed {
         baked: (closed.ticket > 0).then_some(baked),
         given_up: closed.expired.len(),
+        shortfall: closed.shortfall as usize,
     })
 }

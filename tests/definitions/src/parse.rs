@@ -45,7 +45,7 @@ fn soundness(line: &str) -> String {
     )
 }
 
-/// `DEPTH SLOT HIGHEST ; JOB ; ... => TICKET GRADE ; EXPIRED ; ...`
+/// `DEPTH SLOT HIGHEST ; JOB ; ... => TICKET GRADE SHORTFALL ; EXPIRED ; ...`
 fn closing(line: &str) -> String {
     let (asked, told) = line.split_once("=>").expect("an arrow");
     let asked: Vec<&str> = asked.split(';').collect();
@@ -55,7 +55,7 @@ fn closing(line: &str) -> String {
         .iter()
         .map(|piece| list(&numbers(piece)))
         .collect();
-    let answer = [0, baked[0], baked[1], gone.len() as u64];
+    let answer = [0, baked[0], baked[1], gone.len() as u64, baked[2]];
     format!(
         "close-right (board {} {} {}) {} {}",
         arguments(asked[0]),
@@ -108,6 +108,6 @@ fn answer(call: &str, told: &str) -> String {
     if !told.starts_with('R') {
         answer.insert(0, 0);
     }
-    answer.resize(if admits { 2 } else { 4 }, 0);
+    answer.resize(if admits { 2 } else { 5 }, 0);
     list(&answer)
 }

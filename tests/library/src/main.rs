@@ -37,7 +37,7 @@ fn answers() {
     let handed_over = oven::calls::page_hand_over(Page::new(), Figures::default());
     layout!("oven_opened", OpenAnswer, opened, refusal "refusal", board "board");
     layout!("oven_admitted", AdmitAnswer, admitted, refusal "refusal", last "last", board "board");
-    layout!("oven_closed", CloseAnswer, closed, refusal "refusal", ticket "ticket", grade "grade", given_up "given_up", board "board");
+    layout!("oven_closed", CloseAnswer, closed, refusal "refusal", ticket "ticket", grade "grade", given_up "given_up", shortfall "shortfall", board "board");
     layout!("oven_counted", CountAnswer, counted, refusal "refusal", tally "tally");
     layout!("oven_handed_over", HandOverAnswer, handed_over, refusal "refusal", page "page");
 }

@@ -21,10 +21,10 @@ mod tests {
 
     #[test]
     fn given_up_lines_have_their_order() {
-        let one = b"B,1,3,0,2\nG,1,2,1\nG,1,1,2\nB,2,0,0,0\n";
-        let other = b"B,1,3,0,2\nG,1,1,2\nG,1,2,1\nB,2,0,0,0\n";
-        let moved = b"B,1,3,0,2\nG,1,2,1\nB,2,0,0,0\nG,1,1,2\n";
-        let twice = b"B,1,3,0,2\nG,1,2,1\nG,1,2,1\nB,2,0,0,0\n";
+        let one = b"B,1,3,0,2,2\nG,1,2,1\nG,1,1,2\nB,2,0,0,0,0\n";
+        let other = b"B,1,3,0,2,2\nG,1,1,2\nG,1,2,1\nB,2,0,0,0,0\n";
+        let moved = b"B,1,3,0,2,2\nG,1,2,1\nB,2,0,0,0,0\nG,1,1,2\n";
+        let twice = b"B,1,3,0,2,2\nG,1,2,1\nG,1,2,1\nB,2,0,0,0,0\n";
         assert_eq!(difference(one, one), None);
         assert_eq!(difference(one, other), Some(2));
         assert_eq!(difference(one, moved), Some(3));

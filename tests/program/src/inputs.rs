@@ -18,7 +18,7 @@ pub struct Case {
 }
 
 pub fn all() -> Vec<Case> {
-    let mut cases = vec![sample(), board_nine(), given_up()];
+    let mut cases = vec![sample(), board_nine(), given_up(), shortfall()];
     cases.extend(generated());
     cases.extend(in_pieces());
     cases.extend(at_the_buffer());
@@ -37,7 +37,7 @@ fn case(name: String, bytes: Vec<u8>, piece: usize) -> Case {
 /// 01's sample session.
 fn sample() -> Case {
     let bytes = b"D,1\nA,1,1,1\nA,2,2,1\nA,3,2,0\nB\nB\nB\n".to_vec();
-    let expected = b"D,1\nA,1,1\nA,2,2\nA,3,2\nB,1,3,0,1\nG,1,1,1\nB,2,2,1,0\nB,3,0,0,0\nT,0,1,1,0\nT,1,2,1,1\n".to_vec();
+    let expected = b"D,1\nA,1,1\nA,2,2\nA,3,2\nB,1,3,0,1,1\nG,1,1,1\nB,2,2,1,0,0\nB,3,0,0,0,0\nT,0,1,1,0\nT,1,2,1,1\n".to_vec();
     Case {
         name: "sample".to_string(),
         bytes,
@@ -77,16 +77,32 @@ fn board_nine() -> Case {
 fn given_up() -> Case {
     let bytes = b"D,3\nA,8,2,6\nA,9,2,1\nA,10,2,6\nA,11,3,0\nA,12,2,1\nB\nA,13,1,7\nA,99,1,6\nA,100,1,1\nA,101,1,0\nB\nB\n".to_vec();
     let mut expected =
-        b"D,3\nA,8,2\nA,9,2\nA,10,2\nA,11,3\nA,12,2\nB,1,9,1,0\nA,13,2\nA,99,2\nA,100,2\nA,101,2\n"
+        b"D,3\nA,8,2\nA,9,2\nA,10,2\nA,11,3\nA,12,2\nB,1,9,1,0,2\nA,13,2\nA,99,2\nA,100,2\nA,101,2\n"
             .to_vec();
     expected.extend(
-        b"B,2,101,0,6\nG,2,12,1\nG,2,100,1\nG,2,8,6\nG,2,10,6\nG,2,99,6\nG,2,13,7\nB,3,11,0,0\n",
+        b"B,2,101,0,6,6\nG,2,12,1\nG,2,100,1\nG,2,8,6\nG,2,10,6\nG,2,99,6\nG,2,13,7\nB,3,11,0,0,0\n",
     );
     expected.extend(
         b"T,0,2,2,0\nT,1,3,1,2\nT,2,0,0,0\nT,3,0,0,0\nT,4,0,0,0\nT,5,0,0,0\nT,6,3,0,3\nT,7,1,0,1\n",
     );
     Case {
         name: "racks given up".to_string(),
+        bytes,
+        piece: 0,
+        expected: Some(expected),
+    }
+}
+
+/// Four racks for three slots: 'how many are lost already' (02, Five) is said from the
+/// first slot on, two slots before the rack is given up.
+fn shortfall() -> Case {
+    let bytes = b"D,1\nA,1,3,1\nA,2,3,0\nA,3,3,1\nA,4,3,0\nB\nB\nB\nB\n".to_vec();
+    let mut expected =
+        b"D,1\nA,1,3\nA,2,3\nA,3,3\nA,4,3\nB,1,2,0,0,1\nB,2,4,0,0,1\nB,3,1,1,1,1\nG,3,3,1\n"
+            .to_vec();
+    expected.extend(b"B,4,0,0,0,0\nT,0,2,2,0\nT,1,2,1,1\n");
+    Case {
+        name: "shortfall".to_string(),
         bytes,
         piece: 0,
         expected: Some(expected),

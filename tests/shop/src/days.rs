@@ -46,9 +46,9 @@ pub fn board(binary: &str) -> Program {
         ("A,1,1,1\n", "A,1,1\n"),
         ("A,2,2,1\n", "A,2,2\n"),
         ("A,3,2,0\n", "A,3,2\n"),
-        ("B\n", "B,1,3,0,1\nG,1,1,1\n"),
-        ("B\n", "B,2,2,1,0\n"),
-        ("B\n", "B,3,0,0,0\n"),
+        ("B\n", "B,1,3,0,1,1\nG,1,1,1\n"),
+        ("B\n", "B,2,2,1,0,0\n"),
+        ("B\n", "B,3,0,0,0,0\n"),
     ];
     let in_pieces = [("D", ""), (",1\nA,", "D,1\n"), ("7,3,0", "")];
     Program {
@@ -88,7 +88,7 @@ pub fn sheet(binary: &str) -> Program {
 
 fn answers_of_empty_slots(slots: u32) -> Day {
     let mut pieces = vec![("D,0\n".to_string(), "D,0\n".to_string())];
-    pieces.extend((1..=slots).map(|slot| ("B\n".to_string(), format!("B,{slot},0,0,0\n"))));
+    pieces.extend((1..=slots).map(|slot| ("B\n".to_string(), format!("B,{slot},0,0,0,0\n"))));
     Day { pieces, end: "T,0,0,0,0\n".to_string() }
 }
 
