@@ -38,14 +38,14 @@ unfoldable pub shortfall-of : Board → ℕ
 shortfall-of b = shortfall (slot-of b) (held b)
 
 -- 'a refusal hands back the board [..] unchanged; whatever else the answer holds besides the number is then 0'
-abbrev pub close-refused : (number : ℕ) → Board → Closed
-close-refused n b = record { refusal = n; ticket = 0; grade = 0; listed = 0; shortfall = 0; board = b }
+abbrev pub closed-refused : (number : ℕ) → Board → Closed
+closed-refused n b = record { refusal = n; ticket = 0; grade = 0; listed = 0; shortfall = 0; board = b }
 
 -- the answer with the job o baked, so many jobs listed and this shortfall, by the number of the refusal
 unfoldable pub closed-with : (number : ℕ) → Board → Option Job → (listed short : ℕ) → Closed
 closed-with zero b o n s =
     record { refusal = 0; ticket = ticket-of o; grade = grade-of o; listed = n; shortfall = s; board = moved-on-with b (ticket-of o) }
-closed-with (suc k) b o n s = close-refused (suc k) b
+closed-with (suc k) b o n s = closed-refused (suc k) b
 
 -- 'Closing a slot bakes that rack': the rule's
 unfoldable pub bakes : Board → Option Job
@@ -54,6 +54,7 @@ bakes b = baked (slot-of b) (b .depth) (held b)
 unfoldable pub given-up : Board → List Job
 given-up b = given-up-with b (ticket-of (bakes b))
 
+-- the answer by the number of the refusal: with the rule's rack, the jobs given up and the shortfall
 unfoldable pub closed-if : (number : ℕ) → Board → Closed
 closed-if n b = closed-with n b (bakes b) (length (given-up b)) (shortfall-of b)
 

@@ -13,7 +13,7 @@ use Rattle.board.specs.declared.Board.{Board}
 use Rattle.board.specs.declared.Closed.{Closed}
 use Rattle.board.specs.Limits.{places-held}
 use Rattle.board.specs.Rows.{close-rows, unless-refused}
-use Rattle.board.specs.Close.{close-number, closed-with, closed-if, bakes, given-up, closed, listing}
+use Rattle.board.specs.Close.{close-number, closed-if, given-up, closed, listing}
 use Rattle.board.specs.Lent.{Lent, lent-of, entry-count, written-over, lent-with, ClosedInto}
 use Rattle.board.proofs.Calls.Listing.{listed-number, written-room}
 use Rattle.boundary.specs.declared.entries.Entry.{Entry}

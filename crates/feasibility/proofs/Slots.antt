@@ -3,7 +3,7 @@ use mathlib.Core.Path.{_≡_, refl, ap, _∙_}
 use mathlib.Core.Bool.{true}
 use mathlib.Core.Logic.{⊎-elim}
 use mathlib.Core.List.{List, List·Memᴰ}
-use Prim.Native.Nat.{ℕ, zero, suc, _+_, _-_, _≤_, _<_}
+use Prim.Native.Nat.{ℕ, zero, suc, _+_, _≤_, _<_}
 use native.Mathlib.Omega.{arith}
 use lib.Dec.{eqb}
 use borrow.Author.Tests.{eqb-true, eq-eqb}
@@ -39,11 +39,11 @@ slot-gives p s (suc k) t j a b e =
 pub baked-slot : (p : Schedule) (now : ℕ) (r : Job) → bakes-job p now r ≡ true → (j : ℕ) × (now ≤ j) × (j ≤ r .last) × (p j ≡ r .ticket)
 unfolding bakes-job laxity
 baked-slot p now r h =
-    let j = gives-slot-true p now (r .last + 1 - now) (r .ticket) h in (j .0, j .1, omega (arith, j .1, j .2), j .3)
+    let j = gives-slot-true p now _ (r .ticket) h in (j .0, j .1, omega (arith, j .1, j .2), j .3)
 
 pub slot-baked : (p : Schedule) (now : ℕ) (r : Job) (j : ℕ) → now ≤ j → j ≤ r .last → p j ≡ r .ticket → bakes-job p now r ≡ true
 unfolding bakes-job laxity
-slot-baked p now r j a b e = slot-gives p now (r .last + 1 - now) (r .ticket) j a (omega arith) e
+slot-baked p now r j a b e = slot-gives p now _ (r .ticket) j a (omega arith) e
 
 -- what `bakes-job` says of a plan: some slot is given the job
 pub bakes-job-is : {now : ℕ} {A : List Job} {p : Schedule} → Waiting now A → PlanFrom now A p → (r : Job) → List·Memᴰ r A

@@ -8,7 +8,7 @@ use lib.Seq.{take-at}
 use Rattle.rule.specs.Job.{Job}
 use Rattle.board.specs.declared.Board.{Board}
 use Rattle.board.specs.Rows.{unless-refused}
-use Rattle.board.specs.Close.{close-number, closed-with, closed-if, bakes, given-up, closed, listing}
+use Rattle.board.specs.Close.{close-number, closed-with, closed-if, given-up, closed, listing}
 use Rattle.board.specs.Lent.{Lent, written-over, lent-with}
 
 module _ (b : Board) (lent : ℕ) where

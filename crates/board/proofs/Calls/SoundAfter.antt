@@ -3,7 +3,6 @@ use mathlib.Core.Path.{_≡_, refl, sym, ap, _∙_}
 use mathlib.Core.Bool.{true, not}
 use Prim.Native.Nat.{ℕ, zero, suc, _+_}
 use native.Mathlib.Omega.{arith}
-use lib.ListN.{length}
 use lib.Dec.{ltb, eqb}
 use borrow.Author.Tests.{ltb-true}
 use Rattle.lists.proofs.Tests.{and-left}
@@ -14,7 +13,7 @@ use Rattle.board.specs.Rows.{first-given, admit-rows, close-rows}
 use Rattle.board.specs.Held.{slot-of, in-slot}
 use Rattle.board.specs.Sound.{sound}
 use Rattle.board.specs.Admit.{admit-number, with-job, admitted-if, admitted}
-use Rattle.board.specs.Close.{close-number, moved-on-with, closed-with, closed-if, bakes, given-up, closed}
+use Rattle.board.specs.Close.{close-number, moved-on-with, closed-with, closed-if, bakes, closed}
 use Rattle.board.proofs.Soundness.Apart.{facts}
 use Rattle.board.proofs.Soundness.Together.{all-sound}
 use Rattle.board.proofs.Calls.Rows.{row-skipped, admits, closes}

@@ -6,7 +6,6 @@ use mathlib.Core.List.{List}
 use Prim.Native.Nat.{ℕ, zero, suc}
 use native.Mathlib.Omega.{arith}
 use lib.Dec.{eqb}
-use lib.ListN.{length}
 use borrow.Author.Tests.{ne-eqb}
 use Rattle.rule.specs.Job.{Job}
 use Rattle.rule.specs.Bake.{ticket-of}
@@ -15,7 +14,7 @@ use Rattle.board.specs.declared.Board.{Board}
 use Rattle.board.specs.Rows.{first-given, admit-rows, close-rows}
 use Rattle.board.specs.Held.{slot-of, held, in-slot}
 use Rattle.board.specs.Admit.{admit-number, with-job, admitted-if, admitted}
-use Rattle.board.specs.Close.{close-number, bakes, given-up, moved-on-with, closed-with, closed-if, closed}
+use Rattle.board.specs.Close.{close-number, bakes, moved-on-with, closed-with, closed-if, closed}
 use Rattle.board.proofs.Soundness.Facts.{admitted-in}
 use Rattle.board.proofs.Calls.SoundAfter.{admit-number-sound, close-number-sound}
 use Rattle.claims.specs.Calls.{admit, close}

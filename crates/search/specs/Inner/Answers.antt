@@ -27,11 +27,11 @@ TightOf t start left r =
     ForJobs t start left
     (λ now d A u. (r .laxity .0 ≡ tight-laxity now (starting d u A)) × (r .excess ≡ excess now (starting d u A) (tight-laxity now (starting d u A))))
 
--- a laxity of a board, which is that one
+-- these, and the laxity is one of a board
 abbrev pub Tightest : (t : List ℕ) (start left : ℕ) → Best → Type 0
 Tightest t start left r = TightOf t start left r × (r .laxity .0 ≤ longest-laxity)
 
--- the smallest excess, if there are jobs: laxity 0 says that there are none
+-- the smallest excess; laxity 0 tells no jobs apart, which have none
 unfoldable pub smallest-in : Best → Option ℤ
 smallest-in r = cond (eqb (r .laxity .0) 0) none (some (r .excess))
 
