@@ -39,9 +39,9 @@ pub fn bake(b: Board) -> Baked
         };
     }
     let all = tight::tight(&counts, 0, b.depth);
-    let set = descent::descend(&counts, 0, b.depth, all);
-    let own = set.best;
-    let p = soonest::soonest(b, set.grade, own.laxity);
+    let grade = descent::grade_of(&counts, b.depth, all);
+    let own = descent::tight_of_grade(&counts, b.depth, all, grade);
+    let p = soonest::soonest(b, grade, own.laxity);
     let last = p.last;
     Baked {
         ticket: p.ticket,

@@ -48,8 +48,13 @@ few c = pow-mono (counted c .shallow)
 tight-requires : tie.Need-tight-requires
 tight-requires c κs = omega (arith, few (c .before))
 
-descend-requires : tie.Need-descend-requires
-descend-requires c κs = (omega (arith, few (c .before .before .before)), c .before .tight .ensures)
+grade-of-requires : tie.Need-grade-of-requires
+grade-of-requires c κs = (omega (arith, few (c .before .before .before)), c .before .tight .ensures)
+
+tight-of-grade-requires : tie.Need-tight-of-grade-requires
+tight-of-grade-requires c κs =
+    let t = c .before .before .before in
+    ((omega (arith, few (t .before .before)), omega (arith, c .before .grade-of .ensures .1)), t .tight .ensures)
 
 soonest-requires : tie.Need-soonest-requires
 soonest-requires c κs = search needs
@@ -61,18 +66,17 @@ returns-2 : tie.Need-returns-2
 unfolding bakes-seen
 returns-2 c =
     let p = c .before .before .soonest .ensures in
-    let k = c .before .before .before .before in
-    let d = k .descend in
-    let t = k .before .before in
+    let w = c .before .before .before .tight-of-grade in
+    let g = c .before .before .before .before .before in
+    let d = g .grade-of in
+    let t = g .before .before in
     let l = t .before .before in
     let b = l .before .before .before .args .b in
     let C = counted l in
-    let g = d .result .grade in
-    let w = d .result .best .laxity .0 in
-    let fits : Start (b .depth) g 0 = omega (arith, d .ensures .within) in
+    let fits : Start (b .depth) (d .result) 0 = omega (arith, d .ensures .1) in
     let e =
-    ap soonest (of-grade-starts b g w fits)
-    ∙ bakes-found (slot-of b) (b .depth) (seen b) g w (d .ensures .descent _ _ _ (omega arith) C) (d .ensures .tightest .0 _ _ _ fits C .0) in
+    ap soonest (of-grade-starts b (d .result) (w .result .laxity .0) fits)
+    ∙ bakes-found (slot-of b) (b .depth) (seen b) (d .result) (w .result .laxity .0) (d .ensures .0 _ _ _ (omega arith) C) (w .ensures .0 _ _ _ fits C .0) in
     record {
       ticket = p .ticket ∙ ap ticket-of e;
       grade = p .grade ∙ ap grade-of e;
@@ -89,7 +93,8 @@ bake-spec =
     cast-if1
     returns
     tight-requires
-    descend-requires
+    grade-of-requires
+    tight-of-grade-requires
     soonest-requires
     shortfall-of-requires
     returns-2)

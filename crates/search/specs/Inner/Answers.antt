@@ -13,7 +13,6 @@ use Rattle.rule.specs.Tight.{tight-laxity, excess}
 use Rattle.rule.specs.Descent.{next-bit, descend}
 use Rattle.board.specs.Limits.{longest-laxity}
 use Rattle.search.specs.declared.tight.Best.{Best}
-use Rattle.search.specs.declared.descent.NoRegret.{NoRegret}
 use Rattle.search.specs.Inner.Counts.{CountsOf}
 use Rattle.search.specs.Inner.Start.{Start, first-bits}
 
@@ -47,11 +46,9 @@ NextStart t start left r = ForJobs t start left (λ now d A u. first-bits d r (l
 abbrev pub DescentOf : (t : List ℕ) (start left : ℕ) → ℕ → Type 0
 DescentOf t start left r = ForJobs t start left (λ now d A u. bits d r ≡ descend now d A left u)
 
--- the no-regret set that the search from a start ends at: its grade, which starts so, and the tight laxity of that grade
-pub record EndsAt (t : List ℕ) (start left : ℕ) (r : NoRegret) : Type 0 where
-  pub descent : DescentOf t start left (r .grade)
-  pub within : r .grade + 1 ≤ (start + 1) * 2 ^ left
-  pub tightest : Tightest t (r .grade) 0 (r .best)
+-- that grade, which starts so
+abbrev pub EndsAt : (t : List ℕ) (start left : ℕ) → ℕ → Type 0
+EndsAt t start left r = DescentOf t start left r × (r + 1 ≤ (start + 1) * 2 ^ left)
 
 -- the best of the laxities up to k, which `before` jobs have, and of k + 1, which `here` jobs have: 'the least wait whose excess is smallest'
 unfoldable pub best-with : Best → (before here k : ℕ) → Best

@@ -22,52 +22,40 @@ descend-at t = and 1 descend-kinds.ps (is 1 descend-kinds.ps μ-descend t) desce
 abbrev descend-below : ℕ → In 1 descend-kinds.ps
 descend-below t = and 1 descend-kinds.ps (falls 1 descend-kinds.ps _<_ μ-descend t) descend.Pre
 
--- what it calls: `next_start`, `tight`, and itself below its measure
+-- what it calls: `tight`, `next_start`, and itself below its measure
 abbrev calls : ℕ → descend-lts.Claims
-calls t = (next-start-reads.Asked, next-start-reads.Learnt, tight-reads.Asked, tight-reads.Learnt, descend-below t, descend.Post)
+calls t = (tight-reads.Asked, tight-reads.Learnt, next-start-reads.Asked, next-start-reads.Learnt, descend-below t, descend.Post)
 
 descend-returns : (t : ℕ) → descend-lts.Need-returns (calls t) (descend-at t) descend.Post
 descend-returns t c =
-    let s = c .before in
-    let a = s .args in
-    let z = c .if1 .taken in
-    record { descent = descent-ends (now (a .counts)) (a .start) (a .left) z; within = rw z (omega arith); tightest = rw z at (s .pre .1 .1) }
-
-descend-next-start-requires : (t : ℕ) → descend-lts.Need-next-start-requires (calls t) (descend-at t) descend.Post
-descend-next-start-requires t c κs = ((c .before .pre .1 .0, omega arith), c .before .pre .1 .1)
-
-descend-sub-tight : (t : ℕ) → descend-lts.Need-sub-tight (calls t) (descend-at t) descend.Post
-descend-sub-tight t c = omega arith
+    let a = c .before .args in
+    (descent-ends (now (a .counts)) (a .start) (a .left) (c .if1 .taken), rw (c .if1 .taken) (omega arith))
 
 descend-tight-requires : (t : ℕ) → descend-lts.Need-tight-requires (calls t) (descend-at t) descend.Post
-descend-tight-requires t c κs = omega (arith, c .before .before .pre .1 .0, c .next-start .ensures .1)
+descend-tight-requires t c κs = c .before .pre .1
+
+descend-next-start-requires : (t : ℕ) → descend-lts.Need-next-start-requires (calls t) (descend-at t) descend.Post
+descend-next-start-requires t c κs = ((c .before .before .pre .1, omega arith), c .tight .ensures)
 
 descend-sub-descend : (t : ℕ) → descend-lts.Need-sub-descend (calls t) (descend-at t) descend.Post
 descend-sub-descend t c = omega arith
 
 descend-descend-requires : (t : ℕ) → descend-lts.Need-descend-requires (calls t) (descend-at t) descend.Post
-descend-descend-requires t c κs =
-    let n = c .before in
-    (omega arith, (omega (arith, n .before .before .pre .1 .0, n .next-start .ensures .1), c .tight .ensures))
+descend-descend-requires t c κs = (omega arith, omega (arith, c .before .before .before .pre .1, c .next-start .ensures .1))
 
 descend-returns-2 : (t : ℕ) → descend-lts.Need-returns-2 (calls t) (descend-at t) descend.Post
 descend-returns-2 t c =
-    let n = c .before .before in
-    let a = n .before .before .args in
-    let d = c .descend in
-    let next = n .next-start in
-    record {
-      descent = descent-on (now (a .counts)) (a .start) (a .left) (omega arith) (next .result) (d .result .grade) (next .ensures .1) (next .ensures .0) (d .ensures .descent);
-      within = omega (arith, next .ensures .1, d .ensures .within);
-      tightest = d .ensures .tightest;
-    }
+    let n = c .before .next-start in
+    let a = c .before .before .before .before .args in (
+      descent-on (now (a .counts)) (a .start) (a .left) (omega arith) (n .result) (c .descend .result) (n .ensures .1) (n .ensures .0) (c .descend .ensures .0),
+      omega (arith, n .ensures .1, c .descend .ensures .1),
+    )
 
 pub +descend-spec : {M : Type 1} → statement M
 +descend-spec = close μ-descend λ t. descend-lts.spec (calls t) (descend-at t) descend.Post
     (descend-returns t)
-    (descend-next-start-requires t)
-    (descend-sub-tight t)
     (descend-tight-requires t)
+    (descend-next-start-requires t)
     (descend-sub-descend t)
     (descend-descend-requires t)
     (descend-returns-2 t)
