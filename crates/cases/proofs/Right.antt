@@ -6,11 +6,12 @@ use lib.Dec.{eqb}
 use lib.ListN.{length, replicate}
 use Rattle.rule.specs.Job.{Job}
 use Rattle.books.specs.Book.{slots-closed}
-use Rattle.books.specs.Schedule.{total}
+use Rattle.books.specs.Schedule.{total, from-slot}
+use Rattle.feasibility.specs.PlanFrom.{given-up-by}
 use Rattle.board.specs.declared.Place.{Place}
 use Rattle.board.specs.declared.Board.{Board}
 use Rattle.board.specs.Limits.{places-held}
-use Rattle.board.specs.Held.{slot-number, blank}
+use Rattle.board.specs.Held.{slot-number, slot-of, blank, held}
 use Rattle.board.specs.Sound.{sound}
 use Rattle.board.specs.Open.{empty-board}
 use Rattle.board.specs.Admit.{admitted}
@@ -50,11 +51,13 @@ unfoldable pub answer : Board → Call → List ℕ
 answer b (admit t w g) = let r = admitted b t w g in r .refusal ∷ r .last .0 ∷ []
 answer b (close lent) = let r = Close.closed b lent in r .refusal ∷ r .ticket ∷ r .grade ∷ r .listed ∷ r .shortfall ∷ []
 
--- a closing's answer, and the jobs given up in the order in which they are listed
-unfoldable pub close-right : Board → List ℕ → List (List ℕ) → Bool
-close-right b a gone =
+-- a closing's answer, the jobs given up in the order in which they are listed, and a plan from the slot on, a ticket each, that gives up as many as the
+-- shortfall says
+unfoldable pub close-right : Board → List ℕ → List (List ℕ) → List ℕ → Bool
+close-right b a gone laid =
     same (answer b (close places-held)) a
     && same-all (map (λ (r : Job). r .ticket ∷ r .admitted ∷ r .grade ∷ []) (Close.given-up b)) gone
+    && eqb (given-up-by (from-slot (slot-of b) laid) (slot-of b) (held b)) (Close.shortfall-of b)
 
 unfoldable pub answers : Board → List Call → List (List ℕ)
 answers b [] = []

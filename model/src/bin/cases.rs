@@ -3,13 +3,15 @@
 //! `cases COUNT SEED` prints COUNT lines of each of two forms, all numbers in
 //! decimal, one space between words.
 //!
-//! `board DEPTH SLOT HIGHEST ; JOB ; JOB ... => TICKET GRADE SHORTFALL ; EXPIRED ; ...`
+//! `board DEPTH SLOT HIGHEST ; JOB ; ... => TICKET GRADE SHORTFALL ; EXPIRED ; ... | LAID ...`
 //! is a sound board and its closing with a list that is long enough. Before the
 //! arrow are the board's depth, slot and highest ticket, then its racks in board
 //! order, JOB being `TICKET ADMITTED LAST GRADE`. After it are ticket and grade
 //! of the rack baked and the shortfall, 0 0 0 for an empty board, then the racks
 //! given up, by grade from best to worst, within a grade by rising ticket, EXPIRED
-//! being `TICKET ADMITTED GRADE`. On every second board each rack is in its last slot.
+//! being `TICKET ADMITTED GRADE`; and after the bar the tickets of a plan that gives up
+//! the fewest, one for each slot from the present one on. On every second board each
+//! rack is in its last slot.
 //!
 //! `book DEPTH SLOT HIGHEST ; CALL ; CALL ... => ANSWER ; ANSWER ... | K0 K1 ...`
 //! is a list of calls on an empty board. CALL is `A TICKET WAIT GRADE` or
@@ -30,6 +32,7 @@ use model::limits::{DEEPEST, MOST_HELD};
 use model::list::{self, Answer, Call};
 use model::plans;
 use model::samples::{self, Crowd};
+use model::shortfall;
 
 /// Most racks of a case's board.
 const MOST_RACKS: u32 = 7;
@@ -70,13 +73,16 @@ fn board_case(mut board: Board) -> String {
             job.deadline, job.grade
         ));
     }
+    let laid = shortfall::laid_out(board.jobs(), slot);
+    let laid: Vec<String> = laid.iter().map(|job| job.ticket.to_string()).collect();
     let closed = calls::close(&mut board, MOST_HELD).expect("the board is sound");
     let (ticket, grade, shortfall) = (closed.ticket, closed.grade, closed.shortfall);
     let mut answered = vec![format!("{ticket} {grade} {shortfall}")];
     for job in &closed.expired {
         answered.push(format!("{} {} {}", job.ticket, job.admitted, job.grade));
     }
-    format!("{} => {}", asked.join(" ; "), answered.join(" ; "))
+    let (asked, answered, laid) = (asked.join(" ; "), answered.join(" ; "), laid.join(" "));
+    format!("{asked} => {answered} | {laid}")
 }
 
 fn book_case(draw: &mut Draw) -> String {

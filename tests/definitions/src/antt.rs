@@ -41,7 +41,15 @@ const LIBRARY: [&str; 2] = ["mathlib.Core.List.flatten", "mathlib.Core.List.flat
 /// library, all that the crates' specs/ mark `unfoldable`, and those of `cases`.
 pub fn unfoldable_names(crates: &Path) -> io::Result<String> {
     let mut names: Vec<String> = LIBRARY.iter().map(ToString::to_string).collect();
-    for name in ["lists", "rule", "books", "board", "claims", "lines"] {
+    for name in [
+        "lists",
+        "rule",
+        "books",
+        "feasibility",
+        "board",
+        "claims",
+        "lines",
+    ] {
         let folder = crates.join(name).join("specs");
         for module in modules(&folder)? {
             let text = fs::read_to_string(folder.join(format!("{module}.antt")))?;

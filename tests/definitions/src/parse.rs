@@ -45,9 +45,10 @@ fn soundness(line: &str) -> String {
     )
 }
 
-/// `DEPTH SLOT HIGHEST ; JOB ; ... => TICKET GRADE SHORTFALL ; EXPIRED ; ...`
+/// `DEPTH SLOT HIGHEST ; JOB ; ... => TICKET GRADE SHORTFALL ; EXPIRED ; ... | LAID ...`
 fn closing(line: &str) -> String {
     let (asked, told) = line.split_once("=>").expect("an arrow");
+    let (told, laid) = told.split_once('|').expect("a bar");
     let asked: Vec<&str> = asked.split(';').collect();
     let told: Vec<&str> = told.split(';').collect();
     let baked = numbers(told[0]);
@@ -57,12 +58,13 @@ fn closing(line: &str) -> String {
         .collect();
     let answer = [0, baked[0], baked[1], gone.len() as u64, baked[2]];
     format!(
-        "close-right (board {} {} {}) {} {}",
+        "close-right (board {} {} {}) {} {} {}",
         arguments(asked[0]),
         asked.len() - 1,
         places(&asked[1..]),
         list(&answer),
-        list(&gone)
+        list(&gone),
+        list(&numbers(laid))
     )
 }
 
