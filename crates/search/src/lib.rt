@@ -24,7 +24,8 @@ pub struct Baked {
     pub counts: [u16; CELLS],
 }
 
-// The job that the slot bakes: the soonest of the tight set of the grade that the search ends at, the no-regret set.
+// The job that the slot bakes: the soonest of the tight set of the grade that the search ends at, the no-regret set. The shortfall is by the smallest excess
+// of all jobs, which is that of the search with no bits.
 pub fn bake(b: Board) -> Baked
     ensures { λ r. ⌜ BakedSeen b r ⌝ }
 {

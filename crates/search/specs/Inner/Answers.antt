@@ -26,11 +26,11 @@ TightOf t start left r =
     ForJobs t start left
     (λ now d A u. (r .laxity .0 ≡ tight-laxity now (starting d u A)) × (r .excess ≡ excess now (starting d u A) (tight-laxity now (starting d u A))))
 
--- these, and the laxity is one of a board
+-- both, and the laxity is no longer than the longest
 abbrev pub Tightest : (t : List ℕ) (start left : ℕ) → Best → Type 0
 Tightest t start left r = TightOf t start left r × (r .laxity .0 ≤ longest-laxity)
 
--- the smallest excess; laxity 0 tells no jobs apart, which have none
+-- the smallest excess that they tell: laxity 0 says that there are no jobs, and so none
 unfoldable pub smallest-in : Best → Option ℤ
 smallest-in r = cond (eqb (r .laxity .0) 0) none (some (r .excess))
 
