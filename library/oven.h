@@ -39,8 +39,8 @@ extern "C" {
 enum oven_refusal {
     OVEN_NOT_REFUSED = 0,
     OVEN_REFUSED_DEPTH = 1,         /* opening: depth above 3; the returned board is all zero */
-    OVEN_REFUSED_UNSOUND = 2,       /* admitting, closing: board not sound */
-    OVEN_REFUSED_BOOK_ENDED = 3,    /* admitting, closing: slot is 1,000,001 */
+    OVEN_REFUSED_UNSOUND = 2,       /* admitting, closing, promising: board not sound */
+    OVEN_REFUSED_BOOK_ENDED = 3,    /* admitting, closing, promising: slot is 1,000,001 */
     OVEN_REFUSED_TICKET = 4,        /* admitting: ticket not above the highest so far */
     OVEN_REFUSED_WAIT = 5,          /* admitting: wait not 1 to 32 */
     OVEN_REFUSED_GRADE = 6,         /* admitting: grade not below 2^D, D the depth */
@@ -132,6 +132,11 @@ typedef struct oven_closed {
     oven_board board;
 } oven_closed;
 
+typedef struct oven_promised {
+    uint8_t refusal;
+    oven_wait wait; /* the least that can be promised, 1 to 32; 0 for none */
+} oven_promised;
+
 typedef struct oven_counted {
     uint8_t refusal;
     oven_tally tally;
@@ -180,6 +185,14 @@ oven_closed oven_close_into(oven_board board, oven_entry *list, size_t length);
 #define OVEN_STACK_CLOSE 40960
 oven_closed oven_close(oven_board board, uint32_t *tickets, size_t tickets_length, uint8_t *grades, size_t grades_length,
                        oven_slot *slots, size_t slots_length);
+
+/*
+ * What can still be promised: the least wait, 1 to 32, such that some plan from the present slot on bakes one rack more of that wait
+ * and every rack on the board, if nothing else arrives; slots past the book's last count. Then it can be promised with a longer wait
+ * too. 0 says that there is no such wait. Refuses with 2 or 3. The board stays as it is.
+ */
+#define OVEN_STACK_PROMISE 16384
+oven_promised oven_promise(oven_board board);
 
 /* A tally with every count 0. */
 #define OVEN_STACK_ZERO 256

@@ -1,9 +1,10 @@
-//! Admitting and closing.
+//! Admitting, closing, and asking what can still be promised.
 //!
 //! A board is written only after every check has passed, so a refused call
 //! leaves it as it came, an unsound one included.
 
 use crate::board::{Board, Job};
+use crate::promise;
 use crate::refusal::Refusal;
 use crate::rows::{self, Standing};
 use crate::rule;
@@ -124,4 +125,13 @@ where
         expired,
         shortfall,
     })
+}
+
+/// Tells the least wait that can still be promised, or 0 where none can be: the
+/// board is full up to the longest wait, or racks on it are lost already.
+/// 'The board doesn't change' (02, Six).
+pub fn promise(board: &Board) -> Result<u32, Refusal> {
+    check_sound(board)?;
+    rows::promising(standing(board))?;
+    Ok(promise::least_wait(board.jobs(), board.slot))
 }

@@ -22,6 +22,7 @@ pub enum Done {
     Opened { depth: u32 },
     Admitted { ticket: u32, deadline: u32 },
     Closed { slot: u32, closed: Closed },
+    Promised { wait: u32 },
 }
 
 impl Day {
@@ -41,6 +42,7 @@ impl Day {
                 self.admit(ticket, laxity, grade.unwrap_or(worst))
             }
             Request::Close => self.close(),
+            Request::Promise => self.promise(),
         }
     }
 
@@ -82,6 +84,12 @@ impl Day {
             self.tally.record(EXPIRED, job.grade)?;
         }
         Ok(Done::Closed { slot, closed })
+    }
+
+    /// The tally takes in nothing, as nothing happens to a rack.
+    fn promise(&mut self) -> Result<Done, Refusal> {
+        let wait = calls::promise(self.open_board())?;
+        Ok(Done::Promised { wait })
     }
 }
 

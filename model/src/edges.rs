@@ -31,7 +31,7 @@ pub const BROKEN: [Maker; 18] = [
 ];
 
 /// Each board is sound and meets the bound named exactly.
-pub const BOUNDARY: [Maker; 17] = [
+pub const BOUNDARY: [Maker; 19] = [
     ("depth 0", |draw| with_depth(draw, 0)),
     ("depth 3", |draw| with_depth(draw, DEEPEST)),
     ("slot 1", |draw| in_slot(draw, 1)),
@@ -58,6 +58,10 @@ pub const BOUNDARY: [Maker; 17] = [
     ("longest wait", longest_span),
     ("greatest grade", greatest_grade),
     ("eight together", eight_together),
+    ("a rack for each slot", |draw| filled(draw, LONGEST_LAXITY)),
+    ("a rack for each slot but the last", |draw| {
+        filled(draw, LONGEST_LAXITY - 1)
+    }),
 ];
 
 /// A sound board of three to six racks, all admitted before its slot and due
@@ -247,6 +251,12 @@ fn eight_together(draw: &mut Draw) -> Board {
     let slot = draw.between(2, LAST_SLOT);
     let admitted = slot - draw.between(0, 1);
     together(draw, MOST_PER_SLOT, admitted, slot)
+}
+
+/// Every slot up to this wait has its rack, and none is lost.
+fn filled(draw: &mut Draw, wait: u32) -> Board {
+    let slot = draw.between(LONGEST_LAXITY, LAST_SLOT);
+    samples::filled_board(draw, slot, wait, 0)
 }
 
 fn with_depth(draw: &mut Draw, depth: u32) -> Board {

@@ -19,6 +19,7 @@ pub mod list;
 pub mod plans;
 pub mod printing;
 pub mod program;
+pub mod promise;
 pub mod refusal;
 pub mod rows;
 pub mod rule;

@@ -18,6 +18,8 @@ pub enum Request {
         grade: Option<u32>,
     },
     Close,
+    /// What can still be promised?
+    Promise,
 }
 
 /// The next line without its end, or none at the end of the input: 'a line ends at
@@ -42,7 +44,7 @@ pub fn read(line: &[u8]) -> Result<Request, Refusal> {
     let wanted = match fields[0] {
         b"D" => 2,
         b"A" => 4,
-        b"B" => 1,
+        b"B" | b"Q" => 1,
         _ => return Err(Refusal::Letter),
     };
     if fields.len() != wanted {
@@ -57,7 +59,8 @@ pub fn read(line: &[u8]) -> Result<Request, Refusal> {
             laxity: number(fields[2])?,
             grade: number_or_blank(fields[3])?,
         }),
-        _ => Ok(Request::Close),
+        b"B" => Ok(Request::Close),
+        _ => Ok(Request::Promise),
     }
 }
 

@@ -13,6 +13,8 @@ pub fn done(done: &Done) -> Vec<String> {
         // A: a rack was admitted.
         Done::Admitted { ticket, deadline } => vec![format!("A,{ticket},{deadline}")],
         Done::Closed { slot, closed } => closing(*slot, closed),
+        // Q: a wait was promised, or none could be.
+        Done::Promised { wait } => vec![format!("Q,{wait}")],
     }
 }
 

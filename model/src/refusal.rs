@@ -31,7 +31,7 @@ pub enum Refusal {
     FieldCount = 13,
     /// Line: a field after the first is not a number.
     Field = 14,
-    /// Line: D while a board is open, A or B while none is.
+    /// Line: D while a board is open, A, B or Q while none is.
     NotNow = 15,
     /// Sheet: a slot above 1,000,000, a grade above 7 or more than 255 given up.
     OffSheet = 16,

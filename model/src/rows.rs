@@ -16,11 +16,17 @@ pub struct Standing {
     pub admitted_now: usize,
 }
 
-/// Rows 3 to 7, in order; the first that fails is the one given.
-pub fn admitting(at: Standing, ticket: u32, laxity: u32, grade: u32) -> Result<(), Refusal> {
+/// Row 3, which every call puts first.
+fn not_ended(at: Standing) -> Result<(), Refusal> {
     if at.slot == LAST_SLOT + 1 {
         return Err(Refusal::BookEnded);
     }
+    Ok(())
+}
+
+/// Rows 3 to 7, in order; the first that fails is the one given.
+pub fn admitting(at: Standing, ticket: u32, laxity: u32, grade: u32) -> Result<(), Refusal> {
+    not_ended(at)?;
     if ticket <= at.highest_ticket {
         return Err(Refusal::Ticket);
     }
@@ -38,11 +44,14 @@ pub fn admitting(at: Standing, ticket: u32, laxity: u32, grade: u32) -> Result<(
 
 /// Rows 3 and 8, in order. `lent` is the length of the lent list.
 pub fn closing(at: Standing, lent: usize) -> Result<(), Refusal> {
-    if at.slot == LAST_SLOT + 1 {
-        return Err(Refusal::BookEnded);
-    }
+    not_ended(at)?;
     if lent < MOST_HELD {
         return Err(Refusal::ListShort);
     }
     Ok(())
+}
+
+/// Row 3 alone: of a promise 'numbers 2 and 3 apply' (02, Six).
+pub fn promising(at: Standing) -> Result<(), Refusal> {
+    not_ended(at)
 }

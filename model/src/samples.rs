@@ -111,6 +111,48 @@ pub fn full_board(draw: &mut Draw, slot: u32) -> Board {
     Board::holding(depth, slot, jobs.len() as u32, &jobs)
 }
 
+/// A sound board whose racks can all be baked: one for each slot up to this wait, due by
+/// the last of them, and at most so many for later slots. The slot after this wait stays
+/// free, so the next wait can be promised, and no shorter one. At the longest wait the
+/// day is sold out, though no rack is lost. Eight a slot must be enough for all racks.
+pub fn filled_board(draw: &mut Draw, slot: u32, wait: u32, later: usize) -> Board {
+    let depth = draw.between(0, DEEPEST);
+    let after = (wait + 2..=LONGEST_LAXITY).filter(|_| draw.one_in(3));
+    let after: Vec<u32> = after.take(later).collect();
+    let mut jobs = Vec::new();
+    // Those with the fewest admitted slots to choose from come first.
+    for own in after.into_iter().rev() {
+        jobs.push(with_own_slot(draw, &jobs, slot, (own, LONGEST_LAXITY)));
+    }
+    for own in (1..=wait).rev() {
+        jobs.push(with_own_slot(draw, &jobs, slot, (own, wait)));
+    }
+    jobs.sort_by_key(|job| job.admitted);
+    for (place, job) in jobs.iter_mut().enumerate() {
+        job.ticket = place as u32 + 1;
+        job.grade = draw.between(0, (1 << depth) - 1);
+    }
+    Board::holding(depth, slot, jobs.len() as u32, &jobs)
+}
+
+/// A rack that can have its own slot: its wait is from `own` to `longest`. It was
+/// admitted in a slot with fewer than eight of these racks.
+fn with_own_slot(draw: &mut Draw, jobs: &[Job], slot: u32, (own, longest): (u32, u32)) -> Job {
+    let oldest = (slot + own).saturating_sub(LONGEST_LAXITY).max(1);
+    let has_room = |admitted: &u32| {
+        let alike = jobs.iter().filter(|job| job.admitted == *admitted);
+        alike.count() < MOST_PER_SLOT
+    };
+    let admitted: Vec<u32> = (oldest..=slot).filter(has_room).collect();
+    let admitted = draw.pick(&admitted);
+    let latest = (admitted + LONGEST_LAXITY - 1).min(slot + longest - 1);
+    Job {
+        admitted,
+        deadline: draw.between(slot + own - 1, latest),
+        ..Job::default()
+    }
+}
+
 /// The same board with every rack in its last slot, so that closing gives up all but one.
 pub fn all_due(mut board: Board) -> Board {
     let held = board.held();

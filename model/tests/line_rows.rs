@@ -73,7 +73,9 @@ fn refusals_count_every_line() {
 
 #[test]
 fn row_11_comes_first() {
-    for start in ["", "x", "A", "A,1", "A,1,1,0", "B", "B,", "D,1", ",", "D,9"] {
+    for start in [
+        "", "x", "A", "A,1", "A,1,1,0", "B", "B,", "D,1", ",", "D,9", "Q", "Q,",
+    ] {
         let long = format!("{start}{}", " ".repeat(41 - start.len()));
         assert_eq!(on_open_board(&long), "R,3,11");
         assert_eq!(on_none(&long), "R,1,11");
@@ -110,7 +112,13 @@ fn row_12_first_field_is_one_capital_letter() {
         ",,,",
         "C",
         "T,0",
-        "Q",
+        "q",
+        " Q",
+        "QQ",
+        "Q ",
+        "Q\r",
+        "q,1",
+        "QB",
         "0",
         "\"A\",6,1,0",
         "A;6;1;0",
@@ -142,6 +150,11 @@ fn row_13_comes_before_row_14() {
         "D,,",
         "D,1,1",
         "D,x,x",
+        "Q,",
+        "Q,1",
+        "Q,x",
+        "Q,,",
+        "Q,1,1,1",
     ];
     for line in lines {
         assert_eq!(on_open_board(line), "R,3,13", "{line:?}");
@@ -240,12 +253,26 @@ fn fields_come_before_row_15_and_before_the_call() {
     assert_eq!(on_none("A,1,1,x"), "R,1,14");
     assert_eq!(on_none("A,0,99,9"), "R,1,15");
     assert_eq!(on_none("B"), "R,1,15");
+    assert_eq!(on_none("Q"), "R,1,15");
+}
+
+#[test]
+fn a_question_is_one_letter_alone() {
+    assert_eq!(on_open_board("Q"), "Q,1");
+    assert_eq!(
+        answers("D,0\nQ\nA,1,1,0\nQ"),
+        ["D,0", "Q,1", "A,1,1", "Q,2"]
+    );
+    let spaces = " ".repeat(39);
+    assert_eq!(on_open_board(&format!("Q{spaces}")), "R,3,12");
+    assert_eq!(on_open_board(&format!("Q,{spaces}")), "R,3,11");
+    assert_eq!(on_open_board(&format!("Q,{}", &spaces[1..])), "R,3,13");
 }
 
 #[test]
 fn after_a_refused_opening_no_board_is_open() {
-    let seen = printed("D,4\nB\nA,1,1,0\nD,4294967295\n");
-    assert_eq!(seen, "R,1,1\nR,2,15\nR,3,15\nR,4,1\n");
+    let seen = printed("D,4\nB\nA,1,1,0\nD,4294967295\nQ\n");
+    assert_eq!(seen, "R,1,1\nR,2,15\nR,3,15\nR,4,1\nR,5,15\n");
     assert_eq!(answers("D,4\nD,2\nB\n"), ["R,1,1", "D,2", "B,1,0,0,0,0"]);
 }
 

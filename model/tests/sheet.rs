@@ -155,6 +155,7 @@ fn a_day_with_no_closed_slot_prints_nothing() {
         "D,0\n",
         "D,0\nA,1,1,0\nA,2,1,0\n",
         "D,0\nB,\nb\nB \n",
+        "Q\nD,0\nQ\nA,1,1,0\nQ\nQ,\n",
     ];
     for input in inputs {
         assert_eq!(sheet(input), "", "{input:?}");
@@ -166,6 +167,7 @@ fn lines_after_the_last_closing_change_nothing() {
     let wanted = page(&["      1          0 0   0"], "                 0     0");
     assert_eq!(sheet("D,0\nB"), wanted);
     assert_eq!(sheet("D,0\nB\nA,1,1,0\nA,2,1,0\nx\nD,0\n"), wanted);
+    assert_eq!(sheet("D,0\nQ\nB\nQ\nA,1,1,0\nQ\n"), wanted);
 }
 
 /// A day of eight racks in every slot: so many slots in which they have the longest

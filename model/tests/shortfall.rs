@@ -2,6 +2,7 @@
 
 mod common;
 
+use common::boards::{held, held_for_long};
 use common::{answers, closed_slots, printed, smallest_excess, worked, Closing};
 use model::board::{open, Board, Job};
 use model::calls::{admit, close, close_with};
@@ -25,28 +26,6 @@ fn by_slot(mut board: Board, closings: usize) -> Vec<(u32, usize)> {
         seen.push((closed.shortfall, closed.expired.len()));
     }
     seen
-}
-
-/// A board of depth 0 with racks of these waits. Eight of them were admitted in this
-/// slot, eight in the one before it, and so on back.
-fn held(slot: u32, waits: &[u32]) -> Board {
-    let mut jobs = Vec::new();
-    for (place, wait) in waits.iter().enumerate() {
-        let younger = (waits.len() - 1 - place) as u32;
-        jobs.push(Job {
-            ticket: place as u32 + 1,
-            admitted: slot - younger / 8,
-            deadline: slot + wait - 1,
-            grade: 0,
-        });
-    }
-    Board::holding(0, slot, jobs.len() as u32, &jobs)
-}
-
-/// So many racks, each with the longest wait that it can have on such a board.
-fn held_for_long(slot: u32, many: usize) -> Board {
-    let waits = (0..many).map(|place| 32 - (many - 1 - place) as u32 / 8);
-    held(slot, &waits.collect::<Vec<_>>())
 }
 
 #[test]

@@ -5,39 +5,14 @@ mod common;
 
 use std::collections::BTreeSet;
 
-use common::{book_from, least_by_matching, smallest_excess, Closing};
-use model::board::{Board, Job};
+use common::boards::{drawn_board, large_board};
+use common::{book_from, least_by_matching, slots_ahead, smallest_excess, Closing};
+use model::board::Job;
 use model::draw::Draw;
 use model::limits::{LAST_SLOT, LONGEST_LAXITY, MOST_HELD};
 use model::list::{play, Answer, Call};
 use model::plans::{is_plan, most_baked_by_trying};
-use model::rule::laxity;
-use model::samples;
 use model::shortfall::{laid_out, least_given_up};
-
-/// A sound board of up to so many racks: any; all in their last slot; all with the
-/// longest waits; or with few last slots.
-fn drawn_board(draw: &mut Draw, most: u32, number: u32) -> Board {
-    let mut board = samples::board(draw, most);
-    let held = board.held();
-    let ends = [1, 2, 4, 12].map(|longest| board.slot + draw.between(0, longest));
-    for job in &mut board.places[..held] {
-        let latest = job.admitted + LONGEST_LAXITY - 1;
-        job.deadline = match number % 5 {
-            0 | 1 => job.deadline,
-            2 => board.slot,
-            3 => latest,
-            _ => draw.pick(&ends).min(latest),
-        };
-    }
-    board
-}
-
-/// The slots in which some rack may be baked, from this slot on.
-fn slots_ahead(jobs: &[Job], slot: u32) -> u32 {
-    let longest = jobs.iter().map(|job| laxity(job, slot) as u32).max();
-    longest.unwrap_or(0)
-}
 
 /// The least number given up by any plan: this slot gets none of the racks, or any
 /// one of them, and so on. Every plan is tried.
@@ -142,17 +117,6 @@ fn the_list_of_every_plan() {
         seen.count(&closing);
     }
     assert!(seen.rarest() > 100, "{seen:?}");
-}
-
-/// A large board: of any size, about full, or with all 256 racks.
-fn large_board(draw: &mut Draw, number: u32) -> Board {
-    let slot = draw.between(LONGEST_LAXITY, LAST_SLOT);
-    match number % 4 {
-        0 => drawn_board(draw, 256, number / 4),
-        1 => drawn_board(draw, 40, number / 4),
-        2 => drawn_board(draw, 15, number / 4),
-        _ => samples::full_board(draw, slot),
-    }
 }
 
 #[test]

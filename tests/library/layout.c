@@ -54,6 +54,9 @@ static void answers(void) {
     FIELD(oven_closed, given_up);
     FIELD(oven_closed, shortfall);
     FIELD(oven_closed, board);
+    STRUCT(oven_promised);
+    FIELD(oven_promised, refusal);
+    FIELD(oven_promised, wait);
     STRUCT(oven_counted);
     FIELD(oven_counted, refusal);
     FIELD(oven_counted, tally);

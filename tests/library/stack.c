@@ -32,6 +32,7 @@ static void try_board(uint32_t depth, uint32_t held, bool due) {
     try_admit(board, ticket, 1, 1u << depth, OVEN_REFUSED_GRADE);
     try_close(board, OVEN_PLACES - 1, OVEN_REFUSED_LIST_SHORT);
     try_close(board, OVEN_PLACES, OVEN_NOT_REFUSED);
+    try_promise(board, OVEN_NOT_REFUSED);
 }
 
 static void try_depth(uint32_t depth) {
@@ -48,6 +49,7 @@ static void try_unsound(void) {
     try_sound(board, false);
     try_admit(board, OVEN_PLACES + 1, 1, 0, OVEN_REFUSED_UNSOUND);
     try_close(board, OVEN_PLACES, OVEN_REFUSED_UNSOUND);
+    try_promise(board, OVEN_REFUSED_UNSOUND);
 }
 
 static void try_ended(void) {
@@ -57,6 +59,7 @@ static void try_ended(void) {
     board = answer.closed.board;
     try_admit(board, 1, 1, 0, OVEN_REFUSED_BOOK_ENDED);
     try_close(board, OVEN_PLACES, OVEN_REFUSED_BOOK_ENDED);
+    try_promise(board, OVEN_REFUSED_BOOK_ENDED);
 }
 
 static void try_tally(void) {

@@ -24,6 +24,7 @@ static struct {
     oven_opened opened;
     oven_admitted admitted;
     oven_closed closed;
+    oven_promised promised;
     oven_counted counted;
     oven_tally tally;
     oven_page page;
@@ -43,6 +44,7 @@ static void close_into(void) { answer.closed = oven_close_into(given.board, list
 static void close_parts(void) {
     answer.closed = oven_close(given.board, tickets, given.length, grades, given.length, slots, given.length);
 }
+static void promise(void) { answer.promised = oven_promise(given.board); }
 static void zero(void) { answer.tally = oven_zero(); }
 static void note(void) { answer.number = oven_note(&given.tally, given.kind, given.grade); }
 static void count(void) { answer.counted = oven_count(given.tally, given.kind, given.grade); }
@@ -52,7 +54,7 @@ static void page_full(void) { answer.full = oven_page_full(given.page); }
 static void page_print(void) { answer.printed = oven_page_print(given.page, text, given.length); }
 
 /* The calls, with the header's figure and the most that was seen. */
-enum call { OPEN, SOUND, ADMIT, CLOSE_INTO, CLOSE, ZERO, NOTE, COUNT, PAGE_NEW, PAGE_HAND_OVER, PAGE_FULL, PAGE_PRINT, CALLS };
+enum call { OPEN, SOUND, ADMIT, CLOSE_INTO, CLOSE, PROMISE, ZERO, NOTE, COUNT, PAGE_NEW, PAGE_HAND_OVER, PAGE_FULL, PAGE_PRINT, CALLS };
 
 static struct {
     const char *name;
@@ -64,6 +66,7 @@ static struct {
     {"oven_admit", admit, OVEN_STACK_ADMIT, 0},
     {"oven_close_into", close_into, OVEN_STACK_CLOSE_INTO, 0},
     {"oven_close", close_parts, OVEN_STACK_CLOSE, 0},
+    {"oven_promise", promise, OVEN_STACK_PROMISE, 0},
     {"oven_zero", zero, OVEN_STACK_ZERO, 0},
     {"oven_note", note, OVEN_STACK_NOTE, 0},
     {"oven_count", count, OVEN_STACK_COUNT, 0},
@@ -125,6 +128,13 @@ static void try_close(oven_board board, size_t length, uint8_t number) {
     expect(answer.closed.refusal == number, CLOSE_INTO, "another number");
     measure(CLOSE);
     expect(answer.closed.refusal == number, CLOSE, "another number");
+}
+
+static void try_promise(oven_board board, uint8_t number) {
+    given.board = board;
+    measure(PROMISE);
+    expect(answer.promised.refusal == number, PROMISE, "another number");
+    expect(answer.promised.wait.slots <= (number ? 0 : OVEN_LONGEST_WAIT), PROMISE, "no such wait");
 }
 
 static void try_count(uint32_t kind, uint32_t grade, uint32_t before, uint8_t number) {

@@ -10,6 +10,7 @@ ghost use Rattle.printing.specs.Puts.{PutWithin, PutIf};
 ghost use Rattle.answers.specs.Printed.{jobs-of, closing-of, answer-of, answer-room, answer-fits, tally-room, tally-fits};
 ghost use Rattle.answers.specs.Inner.Fits.{Fits};
 use board::Board;
+use board::Laxity;
 use board::Slot;
 use board::Tally;
 use printing::Line;
@@ -22,11 +23,13 @@ pub struct Closing {
     pub shortfall: u32,
 }
 
-// What a line is answered: the number of a refusal; the depth opened; the ticket admitted and its last slot; the slot closed.
+// What a line is answered: the number of a refusal; the depth opened; the ticket admitted and its last slot; the least laxity that can be promised, 0 for none;
+// the slot closed.
 pub enum Answer {
     Refused(u8),
     Opened(u32),
     Admitted(u32, Slot),
+    Promised(Laxity),
     Closed(Closing),
 }
 
@@ -127,6 +130,7 @@ fn print_fitting(
         Answer::Refused(n) => print_at(out, at, b'R', &[number, n as u64]),
         Answer::Opened(depth) => print_at(out, at, b'D', &[depth as u64]),
         Answer::Admitted(ticket, last) => print_at(out, at, b'A', &[ticket as u64, last.0 as u64]),
+        Answer::Promised(laxity) => print_at(out, at, b'Q', &[laxity.0 as u64]),
         Answer::Closed(closing) => print_closing(closing, tickets, grades, out, at),
     }
 }

@@ -2,6 +2,7 @@ pub mod Rows
 pub mod HeldAfter
 pub mod Listing
 pub mod Shortfall
+pub mod Promise
 pub mod SoundAfterAdmitting
 pub mod SoundAfterThinning
 pub mod SoundAfter

@@ -6,5 +6,6 @@ pub mod Open
 pub mod Admit
 pub mod Close
 pub mod Lent
+pub mod Promise
 pub mod Tally
 pub mod Events

@@ -19,23 +19,31 @@ unfoldable pub first-given : List Row → ℕ
 first-given [] = 0
 first-given (r ∷ rows) = cond (r .given) (r .number) (first-given rows)
 
--- Rows 3 to 7, for admitting: 'slot is 1,000,001', 'ticket not above the highest so far', 'wait not 1 to 32', 'grade not below 2^D', 'eight racks on the
+-- Row 3: 'slot is 1,000,001', which is past the last of the book
+abbrev pub book-ended : (slot : ℕ) → Row
+book-ended slot = 3 if eqb slot (suc last-slot)
+
+-- Rows 3 to 7, for admitting: row 3, 'ticket not above the highest so far', 'wait not 1 to 32', 'grade not below 2^D', 'eight racks on the
 -- board were admitted in this slot'. They read a slot, a highest ticket, the number of jobs admitted in that slot and a depth: the board's, or the day book's.
 unfoldable pub admit-rows : (slot highest in-slot depth ticket laxity grade : ℕ) → List Row
 admit-rows slot highest in-slot depth ticket laxity grade =
-    3 if eqb slot (suc last-slot)
+    book-ended slot
     ∷ 4 if leb ticket highest
     ∷ 5 if not (leb 1 laxity && leb laxity longest-laxity)
     ∷ 6 if leb (2 ^ depth) grade
     ∷ 7 if leb most-in-slot in-slot
     ∷ []
 
--- Rows 3 and 8, for closing with a lent list of so many entries: 'slot is 1,000,001', 'lent list has fewer than 256 entries'.
+-- Rows 3 and 8, for closing with a lent list of so many entries: row 3, 'lent list has fewer than 256 entries'.
 unfoldable pub close-rows : (slot lent : ℕ) → List Row
 close-rows slot lent =
-    3 if eqb slot (suc last-slot)
+    book-ended slot
     ∷ 8 if not (leb places-held lent)
     ∷ []
+
+-- 02, Six: 'Numbers 2 and 3 apply.' Row 3, for asking what can be promised.
+unfoldable pub promise-rows : (slot : ℕ) → List Row
+promise-rows slot = book-ended slot ∷ []
 
 -- what a call lists or counts: nothing, where it is refused
 unfoldable pub unless-refused : {A : Type 0} → (refusal : ℕ) → List A → List A

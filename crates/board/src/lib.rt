@@ -112,6 +112,13 @@ pub struct Closed {
     pub board: Board,
 }
 
+// What can still be promised: the least laxity of one job more, 0 for none.
+#[repr(C)]
+pub struct Promised {
+    pub refusal: u8,
+    pub laxity: Laxity,
+}
+
 // A count for each kind of event and each grade, at kind * Tally::GRADES + grade.
 #[repr(C)]
 pub struct Tally {

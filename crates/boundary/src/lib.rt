@@ -4,6 +4,7 @@ ghost use Rattle.board.specs.Sound.{sound};
 ghost use Rattle.board.specs.Open.{opened};
 ghost use Rattle.board.specs.Admit.{admitted};
 ghost use Rattle.board.specs.Lent.{lent-of, ClosedInto};
+ghost use Rattle.board.specs.Promise.{promised};
 ghost use Rattle.board.specs.Tally.{zero-tally, counted};
 use board::Admitted;
 use board::Board;
@@ -11,6 +12,7 @@ use board::Closed;
 use board::Counted;
 use board::Laxity;
 use board::Opened;
+use board::Promised;
 use board::Tally;
 
 pub mod entries;
@@ -51,6 +53,13 @@ pub extern "C" fn oven_close(
         ⌜ ClosedInto b before after r ⌝ }
 {
     closing::close(b, tickets, grades, slots)
+}
+
+#[no_mangle]
+pub extern "C" fn oven_promise(b: Board) -> Promised
+    ensures { λ r. ⌜ r ≡ promised b ⌝ }
+{
+    promising::promise(b)
 }
 
 #[no_mangle]

@@ -1,10 +1,11 @@
 -- Whether the definitions give the answers of a case.
-use mathlib.Core.Bool.{Bool, true, false, Bool·beq, _&&_}
+use mathlib.Core.Bool.{Bool, true, false, Bool·beq, _&&_, _||_}
 use mathlib.Core.List.{List, [], _∷_, _++_, map}
 use Prim.Native.Nat.{ℕ, suc, _-_}
 use lib.Dec.{eqb}
 use lib.ListN.{length, replicate}
 use Rattle.rule.specs.Job.{Job}
+use Rattle.rule.specs.Promise.{with-further}
 use Rattle.books.specs.Book.{slots-closed}
 use Rattle.books.specs.Schedule.{total, from-slot}
 use Rattle.feasibility.specs.PlanFrom.{given-up-by}
@@ -16,6 +17,7 @@ use Rattle.board.specs.Sound.{sound}
 use Rattle.board.specs.Open.{empty-board}
 use Rattle.board.specs.Admit.{admitted}
 use Rattle.board.specs.Close as Close
+use Rattle.board.specs.Promise.{promised}
 use Rattle.claims.specs.Calls.{Call, admit, close, board-after}
 use Rattle.claims.specs.OurPlan.{our-plan}
 use Rattle.claims.specs.Demand3.{book-of}
@@ -58,6 +60,18 @@ close-right b a gone laid =
     same (answer b (close places-held)) a
     && same-all (map (λ (r : Job). r .ticket ∷ r .admitted ∷ r .grade ∷ []) (Close.given-up b)) gone
     && eqb (given-up-by (from-slot (slot-of b) laid) (slot-of b) (held b)) (Close.shortfall-of b)
+
+-- what can be promised, and unless it is 0 a plan from the slot on, a ticket each, that gives up neither a job on the board nor the further one, whose ticket
+-- is the next
+unfoldable pub promise-right : Board → ℕ → List ℕ → Bool
+promise-right b w kept =
+    let r = promised b in
+    same (r .refusal ∷ r .laxity .0 ∷ []) (0 ∷ w ∷ [])
+    && (eqb w 0 || eqb (given-up-by (from-slot (slot-of b) kept) (slot-of b) (with-further (slot-of b) (held b) (suc (b .highest)) w 0)) 0)
+
+-- a board's closing and its promise
+unfoldable pub board-right : Board → List ℕ → List (List ℕ) → List ℕ → ℕ → List ℕ → Bool
+board-right b a gone laid w kept = close-right b a gone laid && promise-right b w kept
 
 unfoldable pub answers : Board → List Call → List (List ℕ)
 answers b [] = []

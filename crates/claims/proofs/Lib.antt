@@ -6,3 +6,4 @@ pub mod Tallying
 pub mod Unbeaten
 pub mod GivenUpInOrder
 pub mod Shortfall
+pub mod Promise

@@ -11,7 +11,7 @@ use Rattle.board.proofs.Soundness.Apart.{facts}
 use Rattle.board.proofs.Calls.Shortfall.{shortfall-carried}
 use Rattle.claims.specs.Shortfall.{BoardShortfall}
 
-stands : (b : Board) → sound b ≡ true → Waiting (slot-of b) (held b)
+pub stands : (b : Board) → sound b ≡ true → Waiting (slot-of b) (held b)
 stands b s = let F = facts b s in record { rising = record { rises = F .tickets-rise }; come = λ r m. F .each r m .begun }
 
 pub board-shortfall : BoardShortfall

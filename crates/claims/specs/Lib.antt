@@ -5,3 +5,4 @@ pub mod Demand3
 pub mod Balance
 pub mod GivenUpInOrder
 pub mod Shortfall
+pub mod Promise

@@ -6,3 +6,4 @@ pub mod BakeNow
 pub mod Soonest
 pub mod Fewest
 pub mod AllBaked
+pub mod Promise

@@ -1,3 +1,4 @@
 pub mod PlanFrom
 pub mod Fewest
 pub mod AllBaked
+pub mod Promise

@@ -23,6 +23,7 @@ use Rattle.board.specs.Held.{slot-of, job-in, used, held, thinned}
 use Rattle.board.specs.Sound.{sound}
 use Rattle.board.specs.Open.{empty-board, opened}
 use Rattle.board.specs.Admit.{admit-number, with-job, admitted-if, admitted}
+use Rattle.board.specs.Promise.{promised}
 use Rattle.board.specs.Close.{close-number, given-up-with, bakes, given-up, moved-on-with, closed-with, closed-if, closed}
 use Rattle.board.specs.Tally.{tally-grades}
 use Rattle.board.proofs.Soundness.Facts.{SoundFacts}
@@ -35,8 +36,8 @@ use Rattle.board.proofs.Calls.SoundAfterOpening.{opened-board, opened-sound}
 use Rattle.claims.proofs.Tallying.Fates.{baked-held}
 use Rattle.lines.specs.Bytes.{Bytes, lines}
 use Rattle.lines.specs.Fields.{is-digit, value, is-number, readable-as, value-as}
-use Rattle.lines.specs.Reading.{Request, open-board, admit-job, close-slot, Form, forms, form-in, field, form-of, too-long, readable, form-rows, line-rows, line-number, with-values, request-by, request}
-use Rattle.lines.specs.Session.{Session, new-session, is-open, named, Step, step-refused, step-open, step-admit, step-close, when-open, step-request, step-if, step, session-after, run-from, run}
+use Rattle.lines.specs.Reading.{Request, open-board, admit-job, close-slot, ask-promise, Form, forms, form-in, field, form-of, too-long, readable, form-rows, line-rows, line-number, with-values, request-by, request}
+use Rattle.lines.specs.Session.{Session, new-session, is-open, named, Step, step-refused, step-open, step-admit, step-close, step-promise, when-open, step-request, step-if, step, session-after, run-from, run}
 use Rattle.lines.specs.Sheet.{Figures, figures-of, figures-in, closings-in, most-given-up, sheet-number}
 use Rattle.lines.proofs.InTurn.{Every, found, needs-open, in-turn}
 use Rattle.lines.proofs.NeverMet.MayMeet.{closed-number, opened-shallow}
@@ -47,6 +48,7 @@ unfoldable ticket-asked : Request → ℕ
 ticket-asked (open-board d) = 0
 ticket-asked (admit-job t w g) = t
 ticket-asked close-slot = 0
+ticket-asked ask-promise = 0
 
 -- a line of this form whose fields can be read names a ticket of 32 bits
 Ticketed : Form → Type 0
@@ -61,7 +63,7 @@ number-short f h =
 each-ticketed : Every Ticketed forms
 unfolding Every forms Ticketed readable readable-as value-as request-by with-values ticket-asked
 each-ticketed =
-    (λ l h. omega arith, (λ l h. number-short (field 1 l) (and-left (is-number (field 1 l)) _ h), (λ l h. omega arith, record {})))
+    (λ l h. omega arith, (λ l h. number-short (field 1 l) (and-left (is-number (field 1 l)) _ h), (λ l h. omega arith, (λ l h. omega arith, record {}))))
 
 ticket-short : (o : Bool) (l : Bytes) → line-number o l ≡ 0 → ticket-asked (request l) < 4_294_967_296
 unfolding line-number line-rows form-rows form-of request Ticketed
@@ -223,15 +225,21 @@ module _ (b : Board) (h : Short b) where
       })
       (fit-refused (some b) (closed b places-held .refusal) h)
 
+  fit-promise : Fit (step-promise b)
+  unfolding step-promise figures-in every InBounds
+  fit-promise = either (promised b .refusal) _ _ (λ e. record { closing = refl; after = h }) (fit-refused (some b) (promised b .refusal) h)
+
 -- a request in its turn, and a line
 requested : (o : Option Board) → InBounds o → (q : Request) → needs-open q ≡ is-open o → ticket-asked q < 4_294_967_296 → Fit (step-request o q)
 unfolding step-request when-open InBounds needs-open is-open ticket-asked
 requested none h (open-board d) e k = fit-open none d h
 requested none h (admit-job t w g) e k = never refl e
 requested none h close-slot e k = never refl e
+requested none h ask-promise e k = never refl e
 requested (some b) h (open-board d) e k = never e refl
 requested (some b) h (admit-job t w g) e k = fit-admit b h t w _ k
 requested (some b) h close-slot e k = fit-close b h
+requested (some b) h ask-promise e k = fit-promise b h
 
 fit-line : (o : Option Board) → InBounds o → (l : Bytes) → Fit (step o l)
 unfolding step step-if

@@ -25,6 +25,9 @@ letter-D = 68
 unfoldable pub letter-G : ℕ
 letter-G = 71
 
+unfoldable pub letter-Q : ℕ
+letter-Q = 81
+
 unfoldable pub letter-R : ℕ
 letter-R = 82
 

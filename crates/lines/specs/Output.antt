@@ -7,9 +7,9 @@ use Rattle.board.specs.declared.Board.{Board}
 use Rattle.board.specs.declared.Tally.{Tally}
 use Rattle.board.specs.Tally.{count-at}
 use Rattle.board.specs.Events.{admitted-kind, baked-kind, given-up-kind}
-use Rattle.lines.specs.Bytes.{Bytes, letter-A, letter-B, letter-D, letter-G, letter-R, letter-T}
+use Rattle.lines.specs.Bytes.{Bytes, letter-A, letter-B, letter-D, letter-G, letter-Q, letter-R, letter-T}
 use Rattle.lines.specs.Printing.{printed}
-use Rattle.lines.specs.Session.{Named, Closing, Answer, a-refusal, an-opening, an-admitting, a-closing, run}
+use Rattle.lines.specs.Session.{Named, Closing, Answer, a-refusal, an-opening, an-admitting, a-closing, a-promise, run}
 
 -- 'for each of those `G,slot,ticket,grade`', in the order of the jobs given up: 02, Four, 'G lines are compared line by line'
 unfoldable pub printed-given-up : (slot : ℕ) → List Named → Bytes
@@ -22,12 +22,13 @@ printed-closing c =
     printed letter-B (c .slot ∷ c .baked .ticket ∷ c .baked .grade ∷ length (c .given-up) ∷ c .shortfall ∷ [])
     ++ printed-given-up (c .slot) (c .given-up)
 
--- 'for a refusal `R,line number from 1,number`'; `D,depth`; `A,ticket,last slot`
+-- 'for a refusal `R,line number from 1,number`'; `D,depth`; `A,ticket,last slot`; `Q,w`
 unfoldable pub printed-answer : (line : ℕ) → Answer → Bytes
 printed-answer i (a-refusal n) = printed letter-R (i ∷ n ∷ [])
 printed-answer i (an-opening d) = printed letter-D (d ∷ [])
 printed-answer i (an-admitting t k) = printed letter-A (t ∷ k ∷ [])
 printed-answer i (a-closing c) = printed-closing c
+printed-answer i (a-promise w) = printed letter-Q (w ∷ [])
 
 -- the answers from line i on
 unfoldable pub printed-answers : (line : ℕ) → List Answer → Bytes

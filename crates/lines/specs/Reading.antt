@@ -1,4 +1,5 @@
--- The forms of a line, one for each letter, and rows 11 to 15, which are read off them. A further letter is a form in `forms` and a case of `Request`.
+-- The forms of a line, one for each letter, and rows 11 to 15, which are read off them. 02, Six: 'Each line letter added here or below joins row 12, has in
+-- row 13 the fields shown, and counts as B in 15 unless said otherwise.' So a further letter is one form in `forms`, and a case of `Request` for what it asks.
 use mathlib.Core.Bool.{Bool, true, false, not, cond, _&&_}
 use mathlib.Core.List.{List, [], _∷_}
 use mathlib.Core.Option.{Option, none, some}
@@ -6,7 +7,7 @@ use Prim.Native.Nat.{ℕ, suc}
 use lib.Dec.{ltb, eqb}
 use lib.ListN.{length, getD}
 use Rattle.board.specs.Rows.{Row, _if_, first-given}
-use Rattle.lines.specs.Bytes.{Bytes, fields, letter-A, letter-B, letter-D}
+use Rattle.lines.specs.Bytes.{Bytes, fields, letter-A, letter-B, letter-D, letter-Q}
 use Rattle.lines.specs.Fields.{Kind, a-number, a-grade, readable-as, ReadAs, value-as, is-letter}
 
 -- what a line asks for that none of rows 11 to 15 refuses; a grade is none where it is blank
@@ -14,6 +15,7 @@ pub data Request : Type 0 where
   open-board : (depth : ℕ) → Request
   admit-job : (ticket laxity : ℕ) (grade : Option ℕ) → Request
   close-slot : Request
+  ask-promise : Request
 
 -- a request that is still to be given the value of each of these fields
 abbrev pub Asks : List Kind → Type 0
@@ -28,12 +30,13 @@ pub record Form : Type 0 where
   pub for-open : Bool
   pub asks : Asks after
 
--- '`D,depth` opens, `A,ticket,wait,grade` admits, `B` closes the slot'. 'Fields stand in fixed order.'
+-- '`D,depth` opens, `A,ticket,wait,grade` admits, `B` closes the slot'. 'Fields stand in fixed order.' 02, Six: 'The line `Q`'.
 unfoldable pub forms : List Form
 forms =
     record { letter = letter-D; after = a-number ∷ []; for-open = false; asks = open-board }
     ∷ record { letter = letter-A; after = a-number ∷ a-number ∷ a-grade ∷ []; for-open = true; asks = admit-job }
     ∷ record { letter = letter-B; after = []; for-open = true; asks = close-slot }
+    ∷ record { letter = letter-Q; after = []; for-open = true; asks = ask-promise }
     ∷ []
 
 -- the form with this first field: none where it is no letter of a form
@@ -56,7 +59,7 @@ longest-line = 40
 unfoldable pub too-long : Bytes → Bool
 too-long l = ltb longest-line (length l)
 
--- row 13: 'fields: D has 2, A 4, B 1'
+-- row 13: 'fields: D has 2, A 4, B 1'; those of a further letter are 'the fields shown'
 unfoldable pub fields-wanted : Form → ℕ
 fields-wanted r = suc (length (r .after))
 
@@ -66,12 +69,12 @@ unfoldable pub readable : List Kind → ℕ → Bytes → Bool
 readable [] n l = true
 readable (k ∷ ks) n l = readable-as k (field n l) && readable ks (suc n) l
 
--- row 15: 'D while a board is open; A or B while none is'
+-- row 15: 'D while a board is open; A or B while none is'; a further letter 'counts as B'
 unfoldable pub out-of-turn : (for-open opened : Bool) → Bool
 out-of-turn false opened = opened
 out-of-turn true opened = not opened
 
--- row 12: 'first field is not A, B or D'; past it rows 13 to 15 of the line's form
+-- row 12: 'first field is not A, B or D', nor one that 'joins row 12'; past it rows 13 to 15 of the line's form
 unfoldable pub form-rows : Option Form → Bool → Bytes → List Row
 form-rows none opened l = 12 if true ∷ []
 form-rows (some r) opened l =

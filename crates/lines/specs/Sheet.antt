@@ -9,7 +9,7 @@ use Rattle.board.specs.Limits.{last-slot, deepest}
 use Rattle.board.specs.Rows.{_if_, first-given}
 use Rattle.lines.specs.Bytes.{Bytes, line-end, letter-G}
 use Rattle.lines.specs.Printing.{decimal}
-use Rattle.lines.specs.Session.{Closing, Answer, a-refusal, an-opening, an-admitting, a-closing, run}
+use Rattle.lines.specs.Session.{Closing, Answer, a-refusal, an-opening, an-admitting, a-closing, a-promise, run}
 
 unfoldable pub space : ℕ
 space = 32
@@ -109,6 +109,7 @@ figures-in (a-refusal n) = []
 figures-in (an-opening d) = []
 figures-in (an-admitting t k) = []
 figures-in (a-closing c) = figures-of c ∷ []
+figures-in (a-promise w) = []
 
 unfoldable pub closings-in : List Answer → List Figures
 closings-in answers = flatMap figures-in answers

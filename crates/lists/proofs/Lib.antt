@@ -3,6 +3,7 @@ pub mod Members
 pub mod Every
 pub mod Counting
 pub mod Least
+pub mod LeastPassing
 pub mod UpTo
 pub mod Rising
 pub mod Joined

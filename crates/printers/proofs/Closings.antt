@@ -12,7 +12,7 @@ use Rattle.lists.proofs.Tests.{cond-true}
 use Rattle.lines.specs.Sheet.{Figures, figures-of, page, figures-in, sheet-number, is-full, with-closing, page-after}
 use Rattle.lines.specs.Printers.{page-along, filled-by, pages-along}
 use Rattle.answers.specs.declared.Answer.{Answer as AnswerHeld}
-use Rattle.answers.specs.declared.Answer.the-variants.{Refused, Opened, Admitted, Closed}
+use Rattle.answers.specs.declared.Answer.the-variants.{Refused, Opened, Admitted, Promised, Closed}
 use Rattle.answers.specs.Printed.{answer-of}
 use Rattle.answers.proofs.Answer.{the-type}
 use Rattle.answers.proofs.Jobs.{jobs-length}
@@ -51,20 +51,25 @@ module _ (p : List Figures) (f : Figures) where
         ∙ ap (λ (q : List Figures). cond (is-full q) (page q) []) (sym taken)
         ∙ ap (λ (c : Bool). cond c (page (page-after p f)) []) e
 
--- an answer that is no closing brings nothing to the sheet, and the page is as it was
-pub no-closing : (a : AnswerHeld) (T G : List ℕ) → OneOf (0 ∷ 1 ∷ 2 ∷ []) (tagOf the-type a) → figures-in (answer-of a T G) ≡ []
+-- an answer that is no closing, a variant before `Closed`, brings nothing to the sheet, and the page is as it was
+abbrev no-closings : List ℕ
+no-closings = 0 ∷ 1 ∷ 2 ∷ 3 ∷ []
+
+pub no-closing : (a : AnswerHeld) (T G : List ℕ) → OneOf no-closings (tagOf the-type a) → figures-in (answer-of a T G) ≡ []
 unfolding figures-in answer-of
 no-closing (Refused n) T G h = refl
 no-closing (Opened d) T G h = refl
 no-closing (Admitted t k) T G h = refl
-no-closing (Closed c) T G h = absurd (miss (0 ∷ 1 ∷ 2 ∷ []) 3 tt h)
+no-closing (Promised w) T G h = refl
+no-closing (Closed c) T G h = absurd (miss no-closings 4 tt h)
 
-pub page-as-it-was : (a : AnswerHeld) (p : Page) (l : ℕ) → OneOf (0 ∷ 1 ∷ 2 ∷ []) (tagOf the-type a) → page-held p a l ≡ p
+pub page-as-it-was : (a : AnswerHeld) (p : Page) (l : ℕ) → OneOf no-closings (tagOf the-type a) → page-held p a l ≡ p
 unfolding page-held
 page-as-it-was (Refused n) p l h = refl
 page-as-it-was (Opened d) p l h = refl
 page-as-it-was (Admitted t k) p l h = refl
-page-as-it-was (Closed c) p l h = absurd (miss (0 ∷ 1 ∷ 2 ∷ []) 3 tt h)
+page-as-it-was (Promised w) p l h = refl
+page-as-it-was (Closed c) p l h = absurd (miss no-closings 4 tt h)
 
 -- an answer is a closing with these figures
 pub record IsClosing (a : AnswerHeld) (T G : List ℕ) (f : FiguresHeld) : Type 0 where

@@ -5,7 +5,7 @@ ghost use Prim.Native.Nat.{_+_, _≤_, _<_, _^_};
 ghost use lib.ListN.{length};
 ghost use Rattle.board.specs.Limits.{places-held};
 ghost use Rattle.lines.specs.Fields.{grade-meant};
-ghost use Rattle.lines.specs.Session.{step-refused, step-open, step-admit, step-close, step};
+ghost use Rattle.lines.specs.Session.{step-refused, step-open, step-admit, step-close, step-promise, step};
 ghost use Rattle.fields.specs.Grades.{grade-of};
 ghost use Rattle.answers.specs.Printed.{answer-room};
 ghost use Rattle.program.specs.Inner.Days.{session-of, GoodDay, Did, DidAlone, Answered};
@@ -145,6 +145,25 @@ fn close_line(day: Day, tickets: &mut [u32], grades: &mut [u8], slots: &mut [u32
     }
 }
 
+// A line that asks what can be promised: the day is as it was.
+fn promise_line(day: Day) -> Stepped
+    requires { ⌜ GoodDay day ⌝ }
+    requires { ⌜ day .opened ≡ true ⌝ }
+    ensures { λ r. ⌜ DidAlone day (step-promise (day .board)) r ⌝ }
+{
+    let p = promising::promise_seen(day.board);
+    if p.refusal != 0 {
+        return refuse(day, p.refusal);
+    }
+    let laxity = p.laxity;
+    let answer = Answer::Promised(laxity);
+    Stepped {
+        day,
+        answer,
+        listed: 0,
+    }
+}
+
 // What a line does, the line end not among its bytes.
 fn step_line(
     day: Day,
@@ -162,6 +181,7 @@ fn step_line(
         Asked::Open(depth) => open_line(day, depth),
         Asked::Admit(ticket, laxity, grade) => admit_line(day, ticket, laxity, grade),
         Asked::Close => close_line(day, tickets, grades, slots),
+        Asked::Promise => promise_line(day),
         Asked::Refused(n) => refuse(day, n),
     }
 }

@@ -23,6 +23,8 @@ pub enum Asked {
     // Ticket, laxity (01's wait) and grade, which may be blank.
     Admit(u32, Laxity, Grade),
     Close,
+    // What can still be promised.
+    Promise,
     Refused(u8),
 }
 
@@ -49,6 +51,7 @@ fn letter_field(f: &[u8]) -> Letter
         b'D' => Letter::Is(b, 2, false),
         b'A' => Letter::Is(b, 4, true),
         b'B' => Letter::Is(b, 1, true),
+        b'Q' => Letter::Is(b, 1, true),
         _ => Letter::Other,
     }
 }
@@ -86,6 +89,7 @@ fn read_fields(line: &[u8], letter: u8) -> Asked
     match letter {
         b'D' => read_open(line),
         b'A' => read_admit(line),
+        b'Q' => Asked::Promise,
         _ => Asked::Close,
     }
 }

@@ -1,4 +1,4 @@
--- 01's boards 1 to 8, 'worked by hand' there, as one table that the definitions are computed against.
+-- 01's boards 1 to 8, 'worked by hand' there, and some more for 02, as one table that the definitions are computed against.
 use mathlib.Core.Path.{_≡_}
 use mathlib.Core.List.{List, [], _∷_, map}
 use Prim.Native.Nat.{ℕ, zero, suc}
@@ -7,6 +7,7 @@ use lib.ListN.{length}
 use Rattle.lists.specs.Select.{select}
 use Rattle.rule.specs.Job.{Job, job}
 use Rattle.rule.specs.Tight.{excess, tight-laxity, tight}
+use Rattle.rule.specs.Promise.{least-promised}
 use Rattle.rule.specs.Bake.{baked, expires, stays, ticket-of}
 
 -- a closing: the ticket baked (0 for 'empty') and the tickets given up
@@ -18,11 +19,12 @@ infix 90 _gives-up_
 unfoldable pub _gives-up_ : ℕ → List ℕ → Closing
 t gives-up ts = record { ticket = t; given-up = ts }
 
--- what 01 says of a board: the excess of a wait, l* with the tight set's tickets, and the first closings
+-- what is said of a board: the excess of a wait, l* with the tight set's tickets, the first closings, and what can still be promised with this longest wait
 pub data Fact : Type 0 where
   excess-is : (l : ℕ) (x : ℤ) → Fact
   tight-is : (l : ℕ) (tickets : List ℕ) → Fact
   closes : List Closing → Fact
+  promises : (longest w : ℕ) → Fact
 
 -- 'Written as wait/grade': a wait and a grade
 pub record Waiting : Type 0 where
@@ -33,7 +35,7 @@ infix 90 _of-grade_
 unfoldable pub _of-grade_ : ℕ → ℕ → Waiting
 w of-grade g = record { wait = w; grade = g }
 
--- a board and what 01 says of it
+-- a board and what is said of it
 pub record WorkedBoard : Type 0 where
   pub depth : ℕ
   pub waiting : List Waiting
@@ -65,7 +67,13 @@ table =
     }
     -- 8: one rack 3/0: it is baked; empty board: empty
     ∷ record { depth = 1; waiting = 3 of-grade 0 ∷ []; facts = closes (1 gives-up [] ∷ 0 gives-up [] ∷ []) ∷ [] }
-    ∷ record { depth = 1; waiting = []; facts = closes (0 gives-up [] ∷ []) ∷ [] }
+    ∷ record { depth = 1; waiting = []; facts = closes (0 gives-up [] ∷ []) ∷ promises 4 1 ∷ [] }
+    -- 02, Six: past the last full wait, not the first; with no longer one, none
+    ∷ record { depth = 0; waiting = 1 of-grade 0 ∷ 4 of-grade 0 ∷ 4 of-grade 0 ∷ 4 of-grade 0 ∷ []; facts = promises 5 5 ∷ promises 4 0 ∷ [] }
+    -- the longest wait full, and one rack fewer; then more racks than slots
+    ∷ record { depth = 0; waiting = 3 of-grade 0 ∷ 3 of-grade 0 ∷ 3 of-grade 0 ∷ []; facts = promises 3 0 ∷ promises 4 4 ∷ [] }
+    ∷ record { depth = 0; waiting = 3 of-grade 0 ∷ 3 of-grade 0 ∷ []; facts = promises 3 1 ∷ [] }
+    ∷ record { depth = 0; waiting = 1 of-grade 0 ∷ 1 of-grade 0 ∷ []; facts = promises 5 0 ∷ [] }
     ∷ []
 
 -- 'tickets in that order', from t on; admitted in slot 1
@@ -83,12 +91,13 @@ closings now d (suc n) A =
     let o = baked now d A in
     ticket-of o gives-up tickets (select (expires now (ticket-of o)) A) ∷ closings (suc now) d n (select (stays now (ticket-of o)) A)
 
--- what the definitions say in the place of what 01 says, in slot 1
+-- what the definitions say in its place, in slot 1
 unfoldable pub computed : ℕ → List Job → Fact → Fact
 computed d A (excess-is l x) = excess-is l (excess 1 A l)
 computed d A (tight-is l ts) = tight-is (tight-laxity 1 A) (tickets (tight 1 A))
 computed d A (closes cs) = closes (closings 1 d (length cs) A)
+computed d A (promises n w) = promises n (least-promised n 1 A)
 
--- on every board of the table the definitions say what 01 says
+-- on every board of the table the definitions say what is said there
 unfoldable pub Worked : Type 0
 Worked = map (λ w. map (computed (w .depth) (numbered 1 (w .waiting))) (w .facts)) table ≡ map (λ w. w .facts) table

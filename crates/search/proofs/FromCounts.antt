@@ -31,7 +31,7 @@ module _ (t : List ℕ) (start left : ℕ) where
       (column-counts now d A t C start left fits) B
 
   -- the first columns count the jobs within a laxity
-  within-of : (now d : ℕ) (A : List Job) → Start d start left → CountsOf now d A t → (l : ℕ) → l ≤ longest-laxity
+  pub within-of : (now d : ℕ) (A : List Job) → Start d start left → CountsOf now d A t → (l : ℕ) → l ≤ longest-laxity
       → sum (column t start left) l ≡ up-to now (starting d (first-bits d start left) A) l
   within-of now d A fits C l h =
       let u = first-bits d start left in

@@ -9,4 +9,5 @@ pub mod NextBit
 pub mod FromCounts
 pub mod Earlier
 pub mod SmallestFound
+pub mod PromiseFound
 pub mod OnSound

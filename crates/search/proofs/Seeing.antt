@@ -3,10 +3,11 @@ use mathlib.Core.Path.{_≡_, refl, sym, ap, _∙_}
 use mathlib.Core.Bool.{Bool, true, false, _&&_}
 use mathlib.Core.List.{List, [], _∷_, List·Memᴰ, List·Memᴰ·head}
 use mathlib.Core.Option.{none}
-use Prim.Native.Nat.{ℕ, _+_, _-_, _≤_, _<_}
+use Prim.Native.Nat.{ℕ, _+_, _-_, _^_, _≤_, _<_}
 use native.Mathlib.Nat.{div-one}
 use native.Mathlib.Omega.{arith}
 use lib.Dec.{leb, ltb, eqb}
+use lib.Pow.{pow-mono}
 use borrow.Author.Tests.{ltb-true, lt-ltb, leb-true, le-leb, eq-eqb, ne-eqb}
 use Rattle.lists.specs.Select.{select}
 use Rattle.lists.proofs.Tests.{same-test}
@@ -32,16 +33,19 @@ unfolding seen
 member-seen b r m = seen-facts _ _ r (select-mem (seen-job (slot-of b) (b .depth)) r (held b) m .1)
 
 -- the board's counts are those of the jobs seen
-pub counts-seen : (b : Board) {t : List ℕ} → b .depth ≤ deepest → Counted (slot-of b) (seen b) t → CountsOf (slot-of b) (b .depth) (seen b) t
-unfolding laxity
-counts-seen b h C =
-    record {
-      counted = C;
-      shallow = h;
-      in-date = λ r m. omega (arith, member-seen b r m .in-date);
-      short = λ r m. member-seen b r m .short;
-      graded = λ r m. member-seen b r m .graded;
-    }
+module _ (b : Board) {t : List ℕ} (C : Counted (slot-of b) (seen b) t) where
+  at-depth : (d : ℕ) → d ≤ deepest → ((r : Job) → List·Memᴰ r (seen b) → r .grade < 2 ^ d) → CountsOf (slot-of b) d (seen b) t
+  unfolding laxity
+  at-depth d h g =
+      record { counted = C; shallow = h; in-date = λ r m. omega (arith, member-seen b r m .in-date); short = λ r m. member-seen b r m .short; graded = g }
+
+  pub counts-seen : b .depth ≤ deepest → CountsOf (slot-of b) (b .depth) (seen b) t
+  counts-seen h = at-depth (b .depth) h (λ r m. member-seen b r m .graded)
+
+  -- at the greatest depth too, whatever the board's
+  pub counts-seen-deepest : CountsOf (slot-of b) deepest (seen b) t
+  counts-seen-deepest =
+      at-depth deepest (omega arith) (λ r m. let s = member-seen b r m in omega (arith, s .graded, pow-mono (s .shallow)))
 
 -- at a depth above the greatest no job is seen, and nothing is baked
 pub none-seen : (b : Board) → deepest < b .depth → seen b ≡ []

@@ -24,7 +24,7 @@ use Rattle.search.specs.Inner.Answers.{TightOf, smallest-in}
 use Rattle.search.proofs.Seeing.{none-seen}
 
 -- every grade starts with no bits
-starting-all : (d : ℕ) (A : List Job) → starting d (first-bits d 0 d) A ≡ A
+pub starting-all : (d : ℕ) (A : List Job) → starting d (first-bits d 0 d) A ≡ A
 unfolding bits
 starting-all d A =
     let n : d - d ≡ 0 = omega arith in

@@ -3,13 +3,20 @@
 // set. It takes any board, and goes by the jobs that it sees there; on a sound board these are all.
 // A start of a grade is the number of its first bits, `start`, with `left` bits left: the grades that start so are the 2 ^ left from start * 2 ^ left
 // on. All of them are below (start + 1) * 2 ^ left, which is at most 2 ^ depth.
+ghost use mathlib.Core.Path.{_≡_};
+ghost use Rattle.rule.specs.Promise.{least-promised};
+ghost use Rattle.board.specs.Limits.{longest-laxity};
+ghost use Rattle.board.specs.Held.{slot-of};
+ghost use Rattle.counts.specs.Seen.{seen};
 ghost use Rattle.search.specs.Inner.Found.{BakedSeen};
 use board::Board;
+use board::Laxity;
 use board::Slot;
 use counts::CELLS;
 
 mod columns;
 mod descent;
+mod room;
 mod shortfall;
 mod soonest;
 mod tight;
@@ -51,4 +58,12 @@ pub fn bake(b: Board) -> Baked
         shortfall: shortfall::shortfall_of(all),
         counts,
     }
+}
+
+// What can still be promised: the least laxity that one job more can have and be baked with all jobs seen, 0 for none.
+pub fn promise(b: Board) -> Laxity
+    ensures { λ r. ⌜ r .0 ≡ least-promised longest-laxity (slot-of b) (seen b) ⌝ }
+{
+    let counts = counts::counts_of(b);
+    room::after_full(&counts)
 }

@@ -10,6 +10,7 @@ use Rattle.books.specs.LeastLastSlot.{least-last-rule, paper-setting}
 use Rattle.feasibility.specs.PlanFrom.{BakedSomewhere}
 use Rattle.feasibility.specs.Fewest.{ShortfallFewest}
 use Rattle.feasibility.specs.AllBaked.{ZeroSuffices}
+use Rattle.feasibility.specs.Promise.{PromisedLeast, LongerToo}
 use Rattle.board.specs.declared.Board.{Board}
 use Rattle.board.specs.Limits.{most-in-slot, places-held}
 use Rattle.board.specs.Held.{in-slot}
@@ -20,6 +21,7 @@ use Rattle.claims.specs.Demand3.{Demand3}
 use Rattle.claims.specs.Balance.{Balance}
 use Rattle.claims.specs.GivenUpInOrder.{GivenUpInOrder}
 use Rattle.claims.specs.Shortfall.{BoardShortfall}
+use Rattle.claims.specs.Promise.{BoardPromise, NeverSoldOut}
 use Rattle.lines.specs.Machine.{ByteByByte}
 use Rattle.lines.specs.NeverMet.{NeverMet}
 use Rattle.lines.specs.BlankGrade.{BlankGrade}
@@ -40,6 +42,14 @@ pub record Theorems : Type 0 where
   pub baked-somewhere : BakedSomewhere
   -- all jobs can be baked exactly when the smallest excess is zero or more
   pub zero-suffices : ZeroSuffices
+  -- what is promised is the least wait of one job more such that some plan bakes it and all jobs in hand, 0 exactly where there is none: in any slot, for any
+  -- jobs; and of every sound board, whose answer carries it
+  pub promised-least : PromisedLeast
+  pub board-promise : BoardPromise
+  -- no answer 0 while some plan bakes one job more and all on the board
+  pub never-sold-out : NeverSoldOut
+  -- what can be promised with one wait can be with a longer one
+  pub longer-too : LongerToo
   -- a rule has level j exactly when it keeps to the no-regret sets of order j; ours has every level
   pub characterised : (S : Setting) → Characterised S
   -- a rule that idles with a job in date is no rival

@@ -1,7 +1,7 @@
-//! The board: slots and waits, racks, opening, admitting, closing.
+//! The board: slots and waits, racks, opening, admitting, closing, promising.
 
 use crate::calls;
-use crate::refusal::{AdmitRefusal, CloseRefusal, OpenRefusal};
+use crate::refusal::{AdmitRefusal, CloseRefusal, OpenRefusal, PromiseRefusal};
 
 /// A number of slots counted from the present one. It is not compared with a [`Slot`].
 #[repr(C)]
@@ -119,5 +119,13 @@ impl Board {
             given_up: answer.given_up as usize,
             shortfall: answer.shortfall as usize,
         })
+    }
+
+    /// What can still be promised: the least wait, 1 to 32, such that some plan from the present slot on bakes one rack more of that
+    /// wait and every rack on the board, if nothing else arrives; none where there is no such wait. A longer wait can be promised too.
+    pub fn promise(&self) -> Result<Option<Wait>, PromiseRefusal> {
+        let answer = calls::promise(*self);
+        PromiseRefusal::from_number(answer.refusal)
+            .map(|()| (answer.wait != Wait(0)).then_some(answer.wait))
     }
 }

@@ -1,8 +1,8 @@
 //! The library's calls with their answers as they come: the number of a refusal, or 0, and the board, tally or page that came back.
 
-use crate::{Board, Page, Slot, Tally};
+use crate::{Board, Page, Slot, Tally, Wait};
 
-pub use crate::declared::{admit, close, close_into, count, note, open, sound, zero};
+pub use crate::declared::{admit, close, close_into, count, note, open, promise, sound, zero};
 pub use crate::declared::{page_full, page_hand_over, page_new, page_print};
 
 /// What opening answers.
@@ -43,6 +43,16 @@ pub struct CloseAnswer {
     pub shortfall: u32,
     /// The board that came back.
     pub board: Board,
+}
+
+/// What promising answers.
+#[repr(C)]
+#[derive(Clone, Copy, Debug, PartialEq, Eq)]
+pub struct PromiseAnswer {
+    /// The number of a refusal, or 0.
+    pub refusal: u8,
+    /// The least wait that can be promised; 0 for none, and after a refusal.
+    pub wait: Wait,
 }
 
 /// What a tally answers to an event.

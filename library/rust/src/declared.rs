@@ -4,7 +4,9 @@
 //! pointer leads to as many values as the number after it says, or to one.
 #![allow(unsafe_code)]
 
-use crate::calls::{AdmitAnswer, CloseAnswer, CountAnswer, HandOverAnswer, OpenAnswer};
+use crate::calls::{
+    AdmitAnswer, CloseAnswer, CountAnswer, HandOverAnswer, OpenAnswer, PromiseAnswer,
+};
 use crate::{Board, Entry, Figures, Page, Slot, Tally, Wait};
 
 extern "C" {
@@ -21,6 +23,7 @@ extern "C" {
         slots: *mut Slot,
         slots_length: usize,
     ) -> CloseAnswer;
+    fn oven_promise(board: Board) -> PromiseAnswer;
     fn oven_zero() -> Tally;
     fn oven_note(tally: *mut Tally, kind: u32, grade: u32) -> u8;
     fn oven_count(tally: Tally, kind: u32, grade: u32) -> CountAnswer;
@@ -63,6 +66,11 @@ pub fn close(
         slots.as_mut_ptr(),
     );
     unsafe { oven_close(board, t, tickets.len(), g, grades.len(), s, slots.len()) }
+}
+
+/// The least wait that can be promised, 0 for none. Refuses with 2 or 3.
+pub fn promise(board: Board) -> PromiseAnswer {
+    unsafe { oven_promise(board) }
 }
 
 /// A tally with every count 0.

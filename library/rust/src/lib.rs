@@ -13,6 +13,7 @@
 //!     board.admit(ticket, Wait(wait), grade)?;
 //!     tally.count(Kind::Admitted, grade)?;
 //! }
+//! assert_eq!(board.promise()?, None);
 //! let mut list = [Entry::default(); Board::PLACES];
 //! let closed = board.close(&mut list)?;
 //! assert_eq!(closed.baked, Some(Baked { ticket: 3, grade: 0 }));
@@ -20,6 +21,7 @@
 //! assert_eq!(closed.shortfall, 1);
 //! tally.count(Kind::Baked, 0)?;
 //! tally.count(Kind::GivenUp, 1)?;
+//! assert_eq!(board.promise()?, Some(Wait(2)));
 //! # Ok::<(), Box<dyn std::error::Error>>(())
 //! ```
 //!
@@ -35,6 +37,8 @@ mod sheet;
 mod tally;
 
 pub use board::{Baked, Board, Closed, Entry, Place, Slot, Wait};
-pub use refusal::{AdmitRefusal, CloseRefusal, CountRefusal, HandOverRefusal, OpenRefusal};
+pub use refusal::{
+    AdmitRefusal, CloseRefusal, CountRefusal, HandOverRefusal, OpenRefusal, PromiseRefusal,
+};
 pub use sheet::{Figures, Page};
 pub use tally::{Kind, Tally};

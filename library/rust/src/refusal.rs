@@ -66,6 +66,13 @@ refusals! {
 }
 
 refusals! {
+    /// Why promising refused.
+    PromiseRefusal:
+    Unsound = 2, "board not sound";
+    BookEnded = 3, "slot is 1,000,001";
+}
+
+refusals! {
     /// Why a tally refused an event.
     CountRefusal:
     NoSuchCount = 9, "kind above 2 or grade above 7";

@@ -3,15 +3,20 @@
 //! `cases COUNT SEED` prints COUNT lines of each of two forms, all numbers in
 //! decimal, one space between words.
 //!
-//! `board DEPTH SLOT HIGHEST ; JOB ; ... => TICKET GRADE SHORTFALL ; EXPIRED ; ... | LAID ...`
-//! is a sound board and its closing with a list that is long enough. Before the
-//! arrow are the board's depth, slot and highest ticket, then its racks in board
-//! order, JOB being `TICKET ADMITTED LAST GRADE`. After it are ticket and grade
+//! `board DEPTH SLOT HIGHEST ; JOB ; ... => TICKET GRADE SHORTFALL ; EXPIRED ; ...`
+//! `| LAID ... | PROMISE KEPT ...`
+//! is a sound board, its closing with a list that is long enough, and its promise.
+//! Before the arrow are the board's depth, slot and highest ticket, then its racks in
+//! board order, JOB being `TICKET ADMITTED LAST GRADE`. After it are ticket and grade
 //! of the rack baked and the shortfall, 0 0 0 for an empty board, then the racks
 //! given up, by grade from best to worst, within a grade by rising ticket, EXPIRED
-//! being `TICKET ADMITTED GRADE`; and after the bar the tickets of a plan that gives up
-//! the fewest, one for each slot from the present one on. On every second board each
-//! rack is in its last slot.
+//! being `TICKET ADMITTED GRADE`. After the first bar are the tickets of a plan that
+//! gives up the fewest, one for each slot from the present one on. After the second bar
+//! is the least wait that can be promised before the closing, 0 for none, and unless it
+//! is 0 the tickets of a plan that bakes a further rack of this wait and every rack on
+//! the board, again one for each slot from the present one on, 0 for the further rack.
+//! In turn come a board of any racks, one on which each rack is in its last slot, and
+//! one whose racks can all be baked and fill the slots up to some wait.
 //!
 //! `book DEPTH SLOT HIGHEST ; CALL ; CALL ... => ANSWER ; ANSWER ... | K0 K1 ...`
 //! is a list of calls on an empty board. CALL is `A TICKET WAIT GRADE` or
@@ -24,18 +29,21 @@ use std::env;
 use std::io::{self, BufWriter, Write};
 use std::process;
 
-use model::board::Board;
+use model::board::{Board, Job};
 use model::book::Book;
 use model::calls;
 use model::draw::Draw;
 use model::limits::{DEEPEST, MOST_HELD};
 use model::list::{self, Answer, Call};
 use model::plans;
+use model::promise;
 use model::samples::{self, Crowd};
 use model::shortfall;
 
 /// Most racks of a case's board.
 const MOST_RACKS: u32 = 7;
+/// The longest wait up to which a case's board fills the slots.
+const LONGEST_FILLED: u32 = 6;
 /// Most calls of a case's book.
 const MOST_CALLS: u32 = 24;
 
@@ -49,11 +57,10 @@ fn main() -> io::Result<()> {
     let mut draw = Draw::new(numbers[1]);
     let mut output = BufWriter::new(io::stdout().lock());
     for turn in 0..numbers[0] {
-        let board = samples::board(&mut draw, MOST_RACKS);
-        let board = if turn % 2 == 0 {
-            board
-        } else {
-            samples::all_due(board)
+        let board = match turn % 3 {
+            0 => samples::board(&mut draw, MOST_RACKS),
+            1 => samples::all_due(samples::board(&mut draw, MOST_RACKS)),
+            _ => filled_board(&mut draw),
         };
         writeln!(output, "{}", board_case(board))?;
     }
@@ -61,6 +68,13 @@ fn main() -> io::Result<()> {
         writeln!(output, "{}", book_case(&mut draw))?;
     }
     output.flush()
+}
+
+/// A board whose racks can all be baked and fill the slots up to some wait.
+fn filled_board(draw: &mut Draw) -> Board {
+    let slot = samples::slot(draw);
+    let wait = draw.between(0, LONGEST_FILLED);
+    samples::filled_board(draw, slot, wait, (MOST_RACKS - wait) as usize)
 }
 
 fn board_case(mut board: Board) -> String {
@@ -73,16 +87,33 @@ fn board_case(mut board: Board) -> String {
             job.deadline, job.grade
         ));
     }
-    let laid = shortfall::laid_out(board.jobs(), slot);
-    let laid: Vec<String> = laid.iter().map(|job| job.ticket.to_string()).collect();
+    let laid = words(&tickets(&shortfall::laid_out(board.jobs(), slot)));
+    let promised = words(&promise(&board));
     let closed = calls::close(&mut board, MOST_HELD).expect("the board is sound");
     let (ticket, grade, shortfall) = (closed.ticket, closed.grade, closed.shortfall);
     let mut answered = vec![format!("{ticket} {grade} {shortfall}")];
     for job in &closed.expired {
         answered.push(format!("{} {} {}", job.ticket, job.admitted, job.grade));
     }
-    let (asked, answered, laid) = (asked.join(" ; "), answered.join(" ; "), laid.join(" "));
-    format!("{asked} => {answered} | {laid}")
+    let (asked, answered) = (asked.join(" ; "), answered.join(" ; "));
+    format!("{asked} => {answered} | {laid} | {promised}")
+}
+
+/// The promise, and the tickets of a plan that keeps it. There is none for wait 0.
+fn promise(board: &Board) -> Vec<u32> {
+    let wait = calls::promise(board).expect("the board is sound");
+    let plan = promise::plan_with(wait, board.jobs(), board.slot);
+    let plan = plan.unwrap_or_default();
+    [vec![wait], tickets(&plan)].concat()
+}
+
+fn tickets(jobs: &[Job]) -> Vec<u32> {
+    jobs.iter().map(|job| job.ticket).collect()
+}
+
+fn words<T: ToString>(numbers: &[T]) -> String {
+    let words: Vec<String> = numbers.iter().map(|number| number.to_string()).collect();
+    words.join(" ")
 }
 
 fn book_case(draw: &mut Draw) -> String {
@@ -96,9 +127,8 @@ fn book_case(draw: &mut Draw) -> String {
     let mut asked = vec![format!("book {depth} {slot} {highest}")];
     asked.extend(calls.iter().map(call_words));
     let answered: Vec<String> = answers.iter().map(answer_words).collect();
-    let most = plans::most_by_slot(&book);
-    let most: Vec<String> = most.iter().map(|number| number.to_string()).collect();
-    let (asked, answered, most) = (asked.join(" ; "), answered.join(" ; "), most.join(" "));
+    let most = words(&plans::most_by_slot(&book));
+    let (asked, answered) = (asked.join(" ; "), answered.join(" ; "));
     format!("{asked} => {answered} | {most}")
 }
 

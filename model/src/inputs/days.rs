@@ -1,5 +1,6 @@
 //! Days in which nearly every line is taken.
 
+use super::questions::with_questions;
 use super::writer::{admitting, Writer};
 use crate::board::worst_grade;
 use crate::draw::Draw;
@@ -16,7 +17,7 @@ pub fn ordinary(draw: &mut Draw, slots: u32) -> Vec<u8> {
         }
         writer.close();
     }
-    writer.bytes
+    with_questions(draw, &writer.bytes, 5)
 }
 
 /// More racks than the oven can bake; now and then more than a slot admits.
@@ -30,7 +31,7 @@ pub fn overfull(draw: &mut Draw, slots: u32) -> Vec<u8> {
         }
         writer.close();
     }
-    writer.bytes
+    with_questions(draw, &writer.bytes, 8)
 }
 
 /// Turns of up to 32 slots. Nearly every rack of a turn has the turn's last slot, and
@@ -43,7 +44,7 @@ pub fn given_up(draw: &mut Draw, slots: u32) -> Vec<u8> {
         one_turn(draw, &mut writer, turn);
         left -= turn;
     }
-    writer.bytes
+    with_questions(draw, &writer.bytes, 8)
 }
 
 /// A turn of so many slots. Grades are any, or the better ones come later.
@@ -79,7 +80,7 @@ pub fn ties(draw: &mut Draw, slots: u32) -> Vec<u8> {
         }
         writer.close();
     }
-    writer.bytes
+    with_questions(draw, &writer.bytes, 5)
 }
 
 /// Tickets that come to the greatest, stay there, and try to pass it.
@@ -94,10 +95,10 @@ pub fn tickets(draw: &mut Draw, slots: u32) -> Vec<u8> {
         }
         writer.close();
     }
-    writer.bytes
+    with_questions(draw, &writer.bytes, 5)
 }
 
-/// Eight racks in every slot at depth 3, tickets one apart.
+/// Eight racks in every slot at depth 3, tickets one apart, and no questions.
 pub fn long(draw: &mut Draw, slots: u32) -> Vec<u8> {
     let mut writer = Writer::new();
     writer.open(DEEPEST);
@@ -113,7 +114,8 @@ pub fn long(draw: &mut Draw, slots: u32) -> Vec<u8> {
     writer.bytes
 }
 
-/// Closings up to the last slots, racks there, and then calls past the end.
+/// Closings up to the last slots, racks and questions there, and then calls past the
+/// end, questions too.
 pub fn end(draw: &mut Draw, slots: u32) -> Vec<u8> {
     let mut writer = opened(draw);
     let slots = slots.min(LAST_SLOT);
@@ -121,11 +123,13 @@ pub fn end(draw: &mut Draw, slots: u32) -> Vec<u8> {
         writer.close();
     }
     for _ in 0..slots + 3 {
+        writer.ask();
         for _ in 0..draw.between(0, 3) {
             let laxity = draw.between(1, LONGEST_LAXITY + 1);
             let grade = writer.grade(draw);
             writer.admit(draw, laxity, grade);
         }
+        writer.ask();
         writer.close();
     }
     writer.bytes

@@ -1,5 +1,6 @@
 //! Days on which the board is about full, so that now one rack more is lost, now none.
 
+use super::questions::with_questions;
 use super::writer::Writer;
 use crate::board::{self, worst_grade, Board, Job};
 use crate::calls;
@@ -9,8 +10,8 @@ use crate::shortfall;
 
 /// A day so far, and the board as its lines leave it. Past the book's end they are
 /// refused, and the board stays as it is.
-struct Hovering {
-    writer: Writer,
+pub struct Hovering {
+    pub writer: Writer,
     board: Board,
 }
 
@@ -38,11 +39,11 @@ pub fn shortfall(draw: &mut Draw, slots: u32) -> Vec<u8> {
         }
         day.close();
     }
-    day.writer.bytes
+    with_questions(draw, &day.writer.bytes, 5)
 }
 
 impl Hovering {
-    fn opened(draw: &mut Draw) -> Hovering {
+    pub fn opened(draw: &mut Draw) -> Hovering {
         let mut writer = Writer::new();
         writer.open(draw.between(0, DEEPEST));
         let board = board::open(writer.depth).0;
@@ -50,7 +51,7 @@ impl Hovering {
     }
 
     /// Admits a rack with this wait, unless too little room is left or too many are lost.
-    fn admit_up_to(&mut self, draw: &mut Draw, laxity: u32, (room, lost): (usize, u32)) {
+    pub fn admit_up_to(&mut self, draw: &mut Draw, laxity: u32, (room, lost): (usize, u32)) {
         let slot = self.board.slot;
         let newcomer = Job {
             deadline: slot + laxity - 1,
@@ -67,7 +68,7 @@ impl Hovering {
         let _ = calls::admit(&mut self.board, ticket, laxity, grade.unwrap_or(worst));
     }
 
-    fn close(&mut self) {
+    pub fn close(&mut self) {
         self.writer.close();
         let _ = calls::close(&mut self.board, MOST_HELD);
     }

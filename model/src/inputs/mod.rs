@@ -3,6 +3,8 @@
 mod days;
 mod full;
 mod pages;
+mod promise;
+mod questions;
 mod spoilt;
 mod writer;
 
@@ -20,7 +22,7 @@ pub struct Kind {
 }
 
 /// All kinds.
-pub const KINDS: [Kind; 14] = [
+pub const KINDS: [Kind; 15] = [
     Kind {
         name: "ordinary",
         about: "ordinary days, about as many racks as slots",
@@ -104,6 +106,12 @@ pub const KINDS: [Kind; 14] = [
         about: "boards about full: a rack fewer than fits, just as many, or a few more",
         size: 100,
         make: full::shortfall,
+    },
+    Kind {
+        name: "promise",
+        about: "asks often what can still be promised, and gets every answer",
+        size: 100,
+        make: promise::promise,
     },
 ];
 

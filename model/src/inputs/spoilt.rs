@@ -1,13 +1,14 @@
 //! Inputs with wrong, damaged and overlong lines.
 
 use super::days;
+use super::questions::with_questions;
 use super::writer::{admitting, zeros, Writer};
 use crate::board::worst_grade;
 use crate::draw::Draw;
 use crate::limits::{DEEPEST, LONGEST_LAXITY, LONGEST_LINE, MOST_PER_SLOT};
 
 /// Bytes that a damaged line may get.
-const STRAY: &[u8] = b"\r\0\t ,,,,;\"'+-.0123456789ABDabdGRT\x0b\x7f\x80\xbf\xc3\xff";
+const STRAY: &[u8] = b"\r\0\t ,,,,;\"'+-.0123456789ABDQabdqGRT\x0b\x7f\x80\xbf\xc3\xff";
 
 /// Lines that row 12 refuses.
 const LETTERS: &[&str] = &[
@@ -25,6 +26,10 @@ const LETTERS: &[&str] = &[
     "B ",
     " B",
     "D ",
+    "q",
+    "QQ",
+    "Q ",
+    " Q",
     "0",
     "1",
     ",",
@@ -34,6 +39,7 @@ const LETTERS: &[&str] = &[
     "R,1,1",
     "\r",
     "B\r",
+    "Q\r",
     "A;1;1;1",
     "\"A\",1,1,1",
 ];
@@ -83,7 +89,7 @@ pub fn refusals(draw: &mut Draw, lines: u32) -> Vec<u8> {
             writer.line(&line);
         }
     }
-    writer.bytes
+    with_questions(draw, &writer.bytes, 10)
 }
 
 /// A line that is refused while no board is open, whatever came before.
@@ -93,7 +99,7 @@ pub fn wrong_before_opening(draw: &mut Draw, writer: &mut Writer) -> Vec<u8> {
             let depth = draw.pick(&[4, 5, 9, 255, 256, u32::MAX]);
             format!("D,{}", zeros(draw, depth)).into_bytes()
         }
-        1 => b"B".to_vec(),
+        1 => vec![draw.pick(b"BQ")],
         2 => format!("D,{}", draw.pick(FIELDS)).into_bytes(),
         _ => wrong_line(draw, writer),
     }
@@ -131,7 +137,7 @@ fn refused_of(draw: &mut Draw, writer: &Writer, sort: u32) -> Vec<u8> {
 
 /// A known letter with the wrong number of fields, some of them wrong too.
 fn wrong_count(draw: &mut Draw) -> Vec<u8> {
-    let (letter, right) = draw.pick(&[("D", 1), ("A", 3), ("B", 0)]);
+    let (letter, right) = draw.pick(&[("D", 1), ("A", 3), ("B", 0), ("Q", 0)]);
     let mut many = draw.between(0, 5);
     if many == right {
         many += 1;
@@ -181,7 +187,16 @@ fn overlong_line(draw: &mut Draw) -> Vec<u8> {
         1 => draw.pick(&[4_095, 4_096, 4_097, 8_191, 8_192, 8_193, 65_536]),
         _ => draw.between(about - 1, about + 5),
     };
-    let start: &[u8] = draw.pick(&[b"A,1,1,0" as &[u8], b"A,1,1,", b"D,", b"B", b"", b"B,"]);
+    let start: &[u8] = draw.pick(&[
+        b"A,1,1,0" as &[u8],
+        b"A,1,1,",
+        b"D,",
+        b"B",
+        b"",
+        b"B,",
+        b"Q",
+        b"Q,",
+    ]);
     let filling = draw.pick(b"0 ,xB\r\0\xff");
     let mut line = start.to_vec();
     line.resize(length as usize, filling);
@@ -204,7 +219,8 @@ pub fn overlong(draw: &mut Draw, lines: u32) -> Vec<u8> {
             _ => writer.line(&overlong_line(draw)),
         }
     }
-    without_last_end(draw, writer.bytes)
+    let bytes = with_questions(draw, &writer.bytes, 8);
+    without_last_end(draw, bytes)
 }
 
 /// A day with about every third line damaged, its first one less often.
@@ -266,12 +282,14 @@ pub fn tiny(draw: &mut Draw, most: u32) -> Vec<u8> {
             b"A",
             b"B",
             b"D",
+            b"Q",
             b"0",
             b"1",
             b"2",
             b"\r",
             b"\nA,",
             b"\nB\n",
+            b"\nQ\n",
             b"\nA,1,1,0\n",
             b"\nA,2,1,\n",
             b"\nD,2\n",
@@ -304,5 +322,6 @@ pub fn mixed(draw: &mut Draw, slots: u32) -> Vec<u8> {
         }
         writer.close();
     }
-    without_last_end(draw, writer.bytes)
+    let bytes = with_questions(draw, &writer.bytes, 6);
+    without_last_end(draw, bytes)
 }

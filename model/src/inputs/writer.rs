@@ -50,6 +50,11 @@ impl Writer {
     pub fn close(&mut self) {
         self.line(b"B");
     }
+
+    /// Asks what can still be promised.
+    pub fn ask(&mut self) {
+        self.line(b"Q");
+    }
 }
 
 /// A line that admits; where there is no grade its field is blank.

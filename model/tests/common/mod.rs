@@ -3,7 +3,9 @@
 // Each test file uses its own part of this.
 #![allow(dead_code)]
 
+pub mod boards;
 pub mod paper;
+pub mod spread;
 
 use model::board::{open, Board, Job};
 use model::book::Book;
@@ -15,7 +17,8 @@ use model::lines::next_line;
 use model::list::{play_with, Answer, Call};
 use model::plans::{is_unbeaten, most_baked, plan_of, Plan};
 use model::printing;
-use model::rule::{excess, tight_laxity};
+use model::promise::further;
+use model::rule::{excess, laxity, tight_laxity};
 use model::samples::{self, Crowd};
 
 /// A way to name the rack to bake from racks, slot and depth.
@@ -190,6 +193,54 @@ fn jobs_on(day: &Day) -> Vec<Job> {
     board.map_or(Vec::new(), |board| board.jobs().to_vec())
 }
 
+/// A question that was answered: the day before it, the wait promised, the day after it.
+#[derive(Debug)]
+pub struct Question {
+    pub before: Day,
+    pub wait: u32,
+    pub after: Day,
+}
+
+impl Question {
+    /// The board that it was asked of.
+    pub fn board(&self) -> &Board {
+        let board = self.before.board.as_ref();
+        board.expect("row 15 has passed")
+    }
+}
+
+/// Follows a day and hands on each question that is answered, with the lines printed
+/// for it.
+pub fn each_question<E: FnMut(&Question, &[String])>(mut input: &[u8], mut each: E) {
+    let mut day = Day::default();
+    while let Some(line) = next_line(&mut input).expect("memory can be read") {
+        if line != b"Q" {
+            let _ = day.take(&line);
+            continue;
+        }
+        let before = day.clone();
+        if let Ok(done) = day.take(&line) {
+            let wait = match done {
+                Done::Promised { wait } => wait,
+                _ => panic!("no answer to a question: {done:?}"),
+            };
+            let after = day.clone();
+            let question = Question {
+                before,
+                wait,
+                after,
+            };
+            each(&question, &printing::done(&done));
+        }
+    }
+}
+
+/// The slots in which some rack may be baked, from this slot on.
+pub fn slots_ahead(jobs: &[Job], slot: u32) -> u32 {
+    let longest = jobs.iter().map(|job| laxity(job, slot) as u32).max();
+    longest.unwrap_or(0)
+}
+
 /// A book of these racks that begins with this slot, for the plans from it on.
 pub fn book_from(jobs: &[Job], slot: u32) -> Book {
     Book {
@@ -203,4 +254,21 @@ pub fn book_from(jobs: &[Job], slot: u32) -> Book {
 pub fn least_by_matching(jobs: &[Job], slot: u32) -> u32 {
     let most = most_baked(&book_from(jobs, slot), LONGEST_LAXITY as usize);
     (jobs.len() - most) as u32
+}
+
+/// These racks and a further one of this wait.
+pub fn with_further(wait: u32, jobs: &[Job], slot: u32) -> Vec<Job> {
+    [jobs, &[further(wait, slot)]].concat()
+}
+
+/// Whether some plan from this slot on bakes a further rack of this wait and every one
+/// of these, by matching.
+pub fn promised_by_matching(wait: u32, jobs: &[Job], slot: u32) -> bool {
+    least_by_matching(&with_further(wait, jobs, slot), slot) == 0
+}
+
+/// The least wait that can be promised, by matching; 0 where there is none.
+pub fn promise_by_matching(jobs: &[Job], slot: u32) -> u32 {
+    let promised = (1..=32).find(|&wait| promised_by_matching(wait, jobs, slot));
+    promised.unwrap_or(0)
 }

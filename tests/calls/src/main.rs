@@ -1,7 +1,7 @@
 //! Compares the library's calls, by both layers of its Rust crate, with the model's.
 //!
 //! Random sound boards, full ones, boards with every rack in its last slot, boards
-//! damaged in one clause, boundary boards, short lent lists, tallies at their limits,
+//! damaged in one clause, boundary boards, boards full up to a wait, short lent lists, tallies at their limits,
 //! pages of any count and any figures, and runs of calls. A lent list is compared
 //! entry by entry, the entries past the racks given up too. Its last line is
 //! 'N passed, M failed'.
@@ -12,6 +12,7 @@ mod closing;
 mod convert;
 mod count;
 mod pages;
+mod promising;
 mod refusals;
 mod tallies;
 
@@ -32,6 +33,9 @@ const RUNS: u64 = 300;
 fn run(draw: &mut Draw) -> bool {
     let mut board = samples::board(draw, 12);
     (0..60).all(|_| {
+        if draw.one_in(5) {
+            return promising::promising(&board);
+        }
         if draw.one_in(3) {
             if draw.one_in(2) {
                 return closing::closes_into(draw, &mut board, 256);
@@ -61,6 +65,9 @@ fn main() {
         count.take("admitting", admitting::admitting(&mut draw, &board));
         count.take("closing, parts", closing::in_parts(&mut draw, &board));
         count.take("closing, entries", closing::into_list(&mut draw, &board));
+        count.take("promising", promising::promising(&board));
+        let filled = promising::filled(&mut draw);
+        count.take("promising, filled", promising::promising(&filled));
     }
     count.take("zero tally", tallies::zero());
     for _ in 0..TALLIES {

@@ -1,7 +1,9 @@
 //! The model's refusals as the crate's enums have them.
 
 use model::refusal::Refusal;
-use oven::{AdmitRefusal, CloseRefusal, CountRefusal, HandOverRefusal, OpenRefusal};
+use oven::{
+    AdmitRefusal, CloseRefusal, CountRefusal, HandOverRefusal, OpenRefusal, PromiseRefusal,
+};
 
 /// The number of the model's answer.
 pub fn number<T>(answer: &Result<T, Refusal>) -> u8 {
@@ -39,6 +41,14 @@ pub fn closing(refusal: Refusal) -> Numbered<CloseRefusal> {
         Refusal::BookEnded => (CloseRefusal::BookEnded, 3),
         Refusal::ListShort => (CloseRefusal::ListShort, 8),
         other => panic!("closing never gives {other:?}"),
+    }
+}
+
+pub fn promising(refusal: Refusal) -> Numbered<PromiseRefusal> {
+    match refusal {
+        Refusal::Unsound => (PromiseRefusal::Unsound, 2),
+        Refusal::BookEnded => (PromiseRefusal::BookEnded, 3),
+        other => panic!("promising never gives {other:?}"),
     }
 }
 

@@ -12,7 +12,7 @@ use mathlib.Core.List.{List, [], _∷_}
 use Prim.Native.Nat.{ℕ}
 use Rattle.lists.specs.Select.{every}
 use Rattle.claims.specs.Calls.{admit, close}
-use Rattle.cases.proofs.Right.{place, board, sound-right, close-right, book-right, day-right, sheet-right, figures, page-right}
+use Rattle.cases.proofs.Right.{place, board, sound-right, board-right, book-right, day-right, sheet-right, figures, page-right}
 ";
 
 /// A module that holds if every case does.

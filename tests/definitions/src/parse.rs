@@ -5,7 +5,7 @@ use crate::antt::list;
 /// The term of a line.
 pub fn case(line: &str) -> String {
     match line.split_whitespace().next() {
-        Some("board") => closing(&line[5..]),
+        Some("board") => board(&line[5..]),
         Some("book") => calls(&line[4..]),
         _ => soundness(line),
     }
@@ -45,10 +45,11 @@ fn soundness(line: &str) -> String {
     )
 }
 
-/// `DEPTH SLOT HIGHEST ; JOB ; ... => TICKET GRADE SHORTFALL ; EXPIRED ; ... | LAID ...`
-fn closing(line: &str) -> String {
+/// `DEPTH SLOT HIGHEST ; JOB ; ... => TICKET GRADE SHORTFALL ; EXPIRED ; ... | LAID ... | PROMISE KEPT ...`
+fn board(line: &str) -> String {
     let (asked, told) = line.split_once("=>").expect("an arrow");
-    let (told, laid) = told.split_once('|').expect("a bar");
+    let (told, plans) = told.split_once('|').expect("a bar");
+    let (laid, promised) = plans.split_once('|').expect("a second bar");
     let asked: Vec<&str> = asked.split(';').collect();
     let told: Vec<&str> = told.split(';').collect();
     let baked = numbers(told[0]);
@@ -57,15 +58,25 @@ fn closing(line: &str) -> String {
         .map(|piece| list(&numbers(piece)))
         .collect();
     let answer = [0, baked[0], baked[1], gone.len() as u64, baked[2]];
+    let highest = numbers(asked[0])[2];
+    let promised = numbers(promised);
     format!(
-        "close-right (board {} {} {}) {} {} {}",
+        "board-right (board {} {} {}) {} {} {} {} {}",
         arguments(asked[0]),
         asked.len() - 1,
         places(&asked[1..]),
         list(&answer),
         list(&gone),
-        list(&numbers(laid))
+        list(&numbers(laid)),
+        promised[0],
+        list(&kept(&promised[1..], highest))
     )
+}
+
+/// The tickets of a plan that keeps the promise; the further rack, told as 0, has the next one.
+fn kept(told: &[u64], highest: u64) -> Vec<u64> {
+    let ticket = |&ticket: &u64| if ticket == 0 { highest + 1 } else { ticket };
+    told.iter().map(ticket).collect()
 }
 
 /// `DEPTH SLOT HIGHEST ; CALL ; ... => ANSWER ; ... | K0 K1 ...`

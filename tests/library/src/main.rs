@@ -1,6 +1,8 @@
 //! The Rust crate's structs, limits and numbers, a line for each, as layout.c prints those of the C header.
 
-use oven::calls::{AdmitAnswer, CloseAnswer, CountAnswer, HandOverAnswer, OpenAnswer};
+use oven::calls::{
+    AdmitAnswer, CloseAnswer, CountAnswer, HandOverAnswer, OpenAnswer, PromiseAnswer,
+};
 use oven::{AdmitRefusal, CloseRefusal, CountRefusal, HandOverRefusal, OpenRefusal};
 use oven::{Board, Entry, Figures, Kind, Page, Place, Slot, Tally, Wait};
 use std::mem::{size_of, size_of_val};
@@ -33,11 +35,13 @@ fn answers() {
     let opened = oven::calls::open(0);
     let admitted = oven::calls::admit(opened.board, 1, Wait(1), 0);
     let closed = oven::calls::close_into(opened.board, &mut []);
+    let promised = oven::calls::promise(opened.board);
     let counted = oven::calls::count(Tally::new(), 0, 0);
     let handed_over = oven::calls::page_hand_over(Page::new(), Figures::default());
     layout!("oven_opened", OpenAnswer, opened, refusal "refusal", board "board");
     layout!("oven_admitted", AdmitAnswer, admitted, refusal "refusal", last "last", board "board");
     layout!("oven_closed", CloseAnswer, closed, refusal "refusal", ticket "ticket", grade "grade", given_up "given_up", shortfall "shortfall", board "board");
+    layout!("oven_promised", PromiseAnswer, promised, refusal "refusal", wait "wait");
     layout!("oven_counted", CountAnswer, counted, refusal "refusal", tally "tally");
     layout!("oven_handed_over", HandOverAnswer, handed_over, refusal "refusal", page "page");
 }

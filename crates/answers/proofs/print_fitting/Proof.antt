@@ -4,7 +4,7 @@ use mathlib.Core.List.{List}
 use Prim.Native.Nat.{ℕ}
 use native.Mathlib.Omega.{arith}
 use borrow.Author.Needs.{needs}
-use Rattle.lines.specs.Bytes.{letter-A, letter-D, letter-R}
+use Rattle.lines.specs.Bytes.{letter-A, letter-D, letter-Q, letter-R}
 use Rattle.lines.specs.Output.{printed-answer}
 use Rattle.printing.specs.Lines.{line-numbers, room}
 use Rattle.answers.specs.declared.Answer.{Answer}
@@ -20,8 +20,8 @@ said i T G e = ap (λ (x : Answer). printed-answer i (answer-of x T G)) e
 enum-known-answer : tie.Need-enum-known-answer
 enum-known-answer c = search needs
 
-cast-t16 : tie.Need-cast-t16
-cast-t16 c = search needs
+cast-t17 : tie.Need-cast-t17
+cast-t17 c = search needs
 
 slice-aggregate-print-at : tie.Need-slice-aggregate-print-at
 slice-aggregate-print-at c = search needs
@@ -33,8 +33,8 @@ print-at-requires c κs = search needs
 enum-known-answer-2 : tie.Need-enum-known-answer-2
 enum-known-answer-2 c = search needs
 
-cast-t22 : tie.Need-cast-t22
-cast-t22 c = search needs
+cast-t23 : tie.Need-cast-t23
+cast-t23 c = search needs
 
 slice-aggregate-print-at-2 : tie.Need-slice-aggregate-print-at-2
 slice-aggregate-print-at-2 c = search needs
@@ -46,11 +46,11 @@ print-at-requires-2 c κs = search needs
 enum-known-answer-3 : tie.Need-enum-known-answer-3
 enum-known-answer-3 c = search needs
 
-cast-t28 : tie.Need-cast-t28
-cast-t28 c = search needs
-
 cast-t29 : tie.Need-cast-t29
 cast-t29 c = search needs
+
+cast-t30 : tie.Need-cast-t30
+cast-t30 c = search needs
 
 slice-aggregate-print-at-3 : tie.Need-slice-aggregate-print-at-3
 slice-aggregate-print-at-3 c = search needs
@@ -61,6 +61,19 @@ print-at-requires-3 c κs = search needs
 
 enum-known-answer-4 : tie.Need-enum-known-answer-4
 enum-known-answer-4 c = search needs
+
+cast-t36 : tie.Need-cast-t36
+cast-t36 c = search needs
+
+slice-aggregate-print-at-4 : tie.Need-slice-aggregate-print-at-4
+slice-aggregate-print-at-4 c = search needs
+
+print-at-requires-4 : tie.Need-print-at-requires-4
+unfolding line-numbers room answer-room
+print-at-requires-4 c κs = search needs
+
+enum-known-answer-5 : tie.Need-enum-known-answer-5
+enum-known-answer-5 c = search needs
 
 print-closing-requires : tie.Need-print-closing-requires
 print-closing-requires c κs = search needs
@@ -90,27 +103,38 @@ same-length-4 : tie.Need-same-length-4
 same-length-4 c = search needs
 
 returns-4 : tie.Need-returns-4
+unfolding printed-answer answer-of answer-room room letter-Q
+returns-4 c = put-as (said _ _ _ (c .before .before .before .before .before .before .before .answer4 .given .1)) (put-fewer (c .before .before .print-at4 .ensures) (omega arith))
+
+same-length-5 : tie.Need-same-length-5
+same-length-5 c = search needs
+
+returns-5 : tie.Need-returns-5
 unfolding printed-answer answer-of
-returns-4 c = put-as (said _ _ _ (c .before .before .before .before .before .answer4 .given .1)) (c .before .before .print-closing .ensures)
+returns-5 c = put-as (said _ _ _ (c .before .before .before .before .before .answer5 .given .1)) (c .before .before .print-closing .ensures)
 
 pub print-fitting-spec : {M : Type 1} → statement M
 print-fitting-spec =
     tie.close
     (tie.spec
     enum-known-answer
-    cast-t16
+    cast-t17
     slice-aggregate-print-at
     print-at-requires
     enum-known-answer-2
-    cast-t22
+    cast-t23
     slice-aggregate-print-at-2
     print-at-requires-2
     enum-known-answer-3
-    cast-t28
     cast-t29
+    cast-t30
     slice-aggregate-print-at-3
     print-at-requires-3
     enum-known-answer-4
+    cast-t36
+    slice-aggregate-print-at-4
+    print-at-requires-4
+    enum-known-answer-5
     print-closing-requires
     same-length
     returns
@@ -119,4 +143,6 @@ print-fitting-spec =
     same-length-3
     returns-3
     same-length-4
-    returns-4)
+    returns-4
+    same-length-5
+    returns-5)

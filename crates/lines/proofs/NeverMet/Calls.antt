@@ -15,14 +15,15 @@ use Rattle.board.specs.Limits.{places-held}
 use Rattle.board.specs.Open.{opened}
 use Rattle.board.specs.Admit.{admitted}
 use Rattle.board.specs.Close.{closed}
+use Rattle.board.specs.Promise.{promised}
 use Rattle.board.specs.Tally.{zero-tally}
 use Rattle.board.specs.Events.{Event, event-numbers, all-taken, fed}
 use Rattle.claims.proofs.Tallying.AdmitFacts.{admit-leads}
 use Rattle.claims.proofs.Tallying.CloseFacts.{close-leads}
-use Rattle.lines.specs.Session.{Step, step-refused, step-open, step-admit, step-close}
+use Rattle.lines.specs.Session.{Step, step-refused, step-open, step-admit, step-close, step-promise}
 use Rattle.lines.specs.NeverMet.{number-of, step-numbers}
 use Rattle.lines.proofs.NeverMet.Between.{Reached, InRun, reached-opened, reached-taken, reached-on}
-use Rattle.lines.proofs.NeverMet.MayMeet.{may-meet, opened-shallow, may-open, may-admit, may-close}
+use Rattle.lines.proofs.NeverMet.MayMeet.{may-meet, opened-shallow, may-open, may-admit, may-close, may-promise}
 
 -- the numbers met at a step may be met, and what holds between two lines holds after it
 pub record Goes (y : Tally) (a : Step) : Type 0 where
@@ -67,3 +68,9 @@ module _ (b : Board) (y : Tally) (r : Reached b y) where
       let l = close-leads b places-held (r .leads .is-sound) in
       either y (closed b places-held .refusal) _ _ (λ e. record { met = taken-met y _ (reached-taken r l); after = reached-on r l })
       (goes-refused (some b) y (closed b places-held .refusal) r (may-close b (r .leads .is-sound)))
+
+  pub goes-promise : Goes y (step-promise b)
+  unfolding step-promise step-numbers number-of event-numbers fed every InRun
+  goes-promise =
+      either y (promised b .refusal) _ _ (λ e. record { met = refl; after = r })
+      (goes-refused (some b) y (promised b .refusal) r (may-promise b (r .leads .is-sound)))

@@ -1,4 +1,4 @@
--- The rows of opening, of admitting and closing on a sound board, give none of the numbers 2, 8, 9 and 10.
+-- The rows of opening, and of the other calls on a sound board, give none of the numbers 2, 8, 9 and 10.
 use mathlib.Core.Path.{_≡_, refl, sym, ap, _∙_}
 use mathlib.Core.Bool.{Bool, true, false, not, cond, _||_}
 use mathlib.Core.Logic.{_⊎_, inl, inr}
@@ -12,14 +12,16 @@ use Rattle.lists.specs.Select.{every}
 use Rattle.lists.proofs.Tests.{never, and-left, and-right, or-cases}
 use Rattle.board.specs.declared.Board.{Board}
 use Rattle.board.specs.Limits.{places-held, deepest}
-use Rattle.board.specs.Rows.{Row, _if_, first-given, admit-rows, close-rows}
+use Rattle.board.specs.Rows.{Row, _if_, first-given, admit-rows, close-rows, promise-rows}
 use Rattle.board.specs.Held.{slot-of, in-slot}
 use Rattle.board.specs.Sound.{sound}
 use Rattle.board.specs.Open.{opened-if, opened}
 use Rattle.board.specs.Admit.{admit-number, admitted-if, admitted}
 use Rattle.board.specs.Close.{close-number, closed-with, closed-if, closed}
+use Rattle.board.specs.Promise.{promise-number, promise-of, promised}
 use Rattle.board.proofs.Calls.Rows.{row-passed}
 use Rattle.board.proofs.Calls.SoundAfter.{admit-number-sound, close-number-sound}
+use Rattle.board.proofs.Calls.Promise.{promise-number-sound, promised-refusal}
 use Rattle.lines.specs.Bytes.{Bytes}
 use Rattle.lines.specs.Reading.{Form, form-of, too-long, form-rows, line-rows, line-number}
 
@@ -87,6 +89,12 @@ unfolding every _if_ close-rows places-held
 may-close b s =
     ap may-meet (closed-number b places-held ∙ close-number-sound b places-held s)
     ∙ first-passes may-meet refl (close-rows (slot-of b) places-held) refl
+
+pub may-promise : (b : Board) → sound b ≡ true → may-meet (promised b .refusal) ≡ true
+unfolding promised every _if_ promise-rows
+may-promise b s =
+    ap may-meet (promised-refusal (promise-number b) (promise-of b) ∙ promise-number-sound b s)
+    ∙ first-passes may-meet refl (promise-rows (slot-of b)) refl
 
 -- rows 11 to 15 give no number below 11
 abbrev none-or-11 : ℕ → Bool

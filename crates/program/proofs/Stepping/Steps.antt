@@ -1,4 +1,4 @@
--- A line refused, a board opened and a job admitted: the day after it, and the answer.
+-- A line refused, a board opened, a job admitted, and what can be promised: the day after it, and the answer.
 use mathlib.Core.Path.{_≡_, refl, sym, ap, _∙_, subst}
 use mathlib.Core.Bool.{true, cond}
 use mathlib.Core.List.{List, [], _∷_}
@@ -11,16 +11,18 @@ use Rattle.board.specs.declared.Board.{Board}
 use Rattle.board.specs.declared.Tally.{Tally}
 use Rattle.board.specs.declared.Opened.{Opened}
 use Rattle.board.specs.declared.Admitted.{Admitted}
+use Rattle.board.specs.declared.Promised.{Promised}
 use Rattle.board.specs.Sound.{sound}
 use Rattle.board.specs.Open.{opened}
 use Rattle.board.specs.Admit.{admitted}
+use Rattle.board.specs.Promise.{promised}
 use Rattle.board.specs.Events.{admitted-kind, event, admit-events, fed}
 use Rattle.board.proofs.Calls.SoundAfter.{admitted-sound}
 use Rattle.board.proofs.Calls.SoundAfterOpening.{opened-sound}
 use Rattle.board.proofs.Tallies.Fed.{let-through}
-use Rattle.lines.specs.Session.{Session, an-opening, an-admitting, Step, step-refused, step-open, step-admit, session-after}
+use Rattle.lines.specs.Session.{Session, an-opening, an-admitting, a-promise, Step, step-refused, step-open, step-admit, step-promise, session-after}
 use Rattle.lines.proofs.NeverMet.MayMeet.{opened-shallow}
-use Rattle.answers.specs.declared.Answer.the-variants.{Refused, Opened as BoardOpened, Admitted as JobAdmitted}
+use Rattle.answers.specs.declared.Answer.the-variants.{Refused, Opened as BoardOpened, Admitted as JobAdmitted, Promised as WaitPromised}
 use Rattle.answers.specs.Printed.{answer-of}
 use Rattle.program.specs.declared.session.Day.{Day}
 use Rattle.program.specs.declared.session.Stepped.{Stepped}
@@ -85,3 +87,18 @@ module _ (day : Day) (t w g : ℕ) (a : Admitted) (e : a ≡ admitted (day .boar
   admit-did y s h c T G =
       did-as (admit-step h)
       (record { good = λ _. rw e (admitted-sound (day .board) t w g s); session = ap (open-session (a .board)) (c ∙ sym (one-fed h)); few = omega arith; answer = refl })
+
+module _ (day : Day) (p : Promised) (e : p ≡ promised (day .board)) (k : day .opened ≡ true) where
+  pub promise-refused : (p .refusal ≡ 0 → ⊥) → step-promise (day .board) ≡ step-refused (session-of day .board) (p .refusal)
+  unfolding step-promise
+  promise-refused h = rw (← e) (cond-false _ _ _ (ne-eqb (p .refusal) 0 h)) ∙ ap (λ o. step-refused o (p .refusal)) (sym (day-board day k))
+
+  promise-step : p .refusal ≡ 0 → step-promise (day .board) ≡ record { answer = a-promise (p .laxity .0); board = session-of day .board; events = [] }
+  unfolding step-promise
+  promise-step h =
+      rw (← e) (cond-true _ _ _ (eq-eqb (p .refusal) 0 h)) ∙ ap (λ o. record { answer = a-promise (p .laxity .0); board = o; events = [] }) (sym (day-board day k))
+
+  pub promise-did : GoodDay day → p .refusal ≡ 0
+      → DidAlone day (step-promise (day .board)) (record { day = day; answer = WaitPromised (p .laxity); listed = 0 })
+  unfolding answer-of session-after fed
+  promise-did g h T G = did-as (promise-step h) (record { good = g; session = refl; few = omega arith; answer = refl })

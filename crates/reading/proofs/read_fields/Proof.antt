@@ -1,7 +1,7 @@
 -- `read_fields` answers as the reader of the letter's line does.
 use borrow.Author.Needs.{needs}
-use Rattle.lines.specs.Bytes.{letter-A, letter-D}
-use Rattle.reading.proofs.Letters.{closes}
+use Rattle.lines.specs.Bytes.{letter-A, letter-D, letter-Q}
+use Rattle.reading.proofs.Letters.{promises, closes}
 use Rattle.reading.proofs.read_fields.Statement.{statement}
 use Rattle.reading.proofs.read_fields.Tie as tie
 
@@ -20,9 +20,13 @@ unfolding letter-A
 returns-2 c = cc
 
 returns-3 : tie.Need-returns-3
-unfolding letter-A letter-D
-returns-3 c = closes _ _ (c .match .rest .0 .1) (c .match .rest .1)
+unfolding letter-Q
+returns-3 c = rw (c .match .keys3) (promises _)
+
+returns-4 : tie.Need-returns-4
+unfolding letter-A letter-D letter-Q
+returns-4 c = let r = c .match .rest in closes _ _ (r .0 .0 .1) (r .0 .1) (r .1)
 
 pub read-fields-spec : {M : Type 1} → statement M
 read-fields-spec =
-    tie.close (tie.spec read-open-requires read-admit-requires returns returns-2 returns-3)
+    tie.close (tie.spec read-open-requires read-admit-requires returns returns-2 returns-3 returns-4)

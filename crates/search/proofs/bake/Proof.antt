@@ -40,7 +40,7 @@ returns c =
 -- the counts are those of the jobs seen, at a depth in its range
 counted : (c : tie.Else1) → let k = c .before .before in let b = k .before .args .b in CountsOf (slot-of b) (b .depth) (seen b) (k .counts-of .result)
 unfolding deepest
-counted c = counts-seen _ (omega arith) (c .before .before .counts-of .ensures)
+counted c = counts-seen _ (c .before .before .counts-of .ensures) (omega arith)
 
 few : (c : tie.Else1) → 2 ^ c .before .before .before .args .b .depth ≤ 2 ^ deepest
 few c = pow-mono (counted c .shallow)

@@ -10,8 +10,9 @@ use lib.Signed.{ltZ}
 use Rattle.rule.specs.Job.{Job}
 use Rattle.rule.specs.Grade.{bits, starting}
 use Rattle.rule.specs.Tight.{tight-laxity, excess}
+use Rattle.rule.specs.Promise.{least-promised}
 use Rattle.rule.specs.Descent.{next-bit, descend}
-use Rattle.board.specs.Limits.{longest-laxity}
+use Rattle.board.specs.Limits.{longest-laxity, deepest}
 use Rattle.search.specs.declared.tight.Best.{Best}
 use Rattle.search.specs.Inner.Counts.{CountsOf}
 use Rattle.search.specs.Inner.Start.{Start, first-bits}
@@ -49,6 +50,10 @@ DescentOf t start left r = ForJobs t start left (λ now d A u. bits d r ≡ desc
 -- that grade, which starts so
 abbrev pub EndsAt : (t : List ℕ) (start left : ℕ) → ℕ → Type 0
 EndsAt t start left r = DescentOf t start left r × (r + 1 ≤ (start + 1) * 2 ^ left)
+
+-- what can still be promised is w, for all jobs A whose counts are t
+abbrev pub PromiseFor : (t : List ℕ) (w : ℕ) → Type 0
+PromiseFor t w = (now : ℕ) (A : List Job) → CountsOf now deepest A t → w ≡ least-promised longest-laxity now A
 
 -- the best of the laxities up to k, which `before` jobs have, and of k + 1, which `here` jobs have: 'the least wait whose excess is smallest'
 unfoldable pub best-with : Best → (before here k : ℕ) → Best

@@ -6,6 +6,7 @@ use Rattle.books.proofs.Levels.LeastLastSlot.{least-last-level0, least-last-not
 use Rattle.feasibility.proofs.Slots.{baked-somewhere}
 use Rattle.feasibility.proofs.Fewest.{shortfall-fewest}
 use Rattle.feasibility.proofs.AllBaked.{zero-suffices}
+use Rattle.feasibility.proofs.Promise.{promised-least, longer-too}
 use Rattle.board.proofs.Soundness.FreePlace.{free-place}
 use Rattle.board.proofs.Calls.SoundAfterOpening.{opened-sound, opened-count}
 use Rattle.claims.proofs.SoundKept.{sound-kept}
@@ -13,6 +14,7 @@ use Rattle.claims.proofs.Unbeaten.{demand3}
 use Rattle.claims.proofs.Tallying.InBalance.{balance}
 use Rattle.claims.proofs.GivenUpInOrder.{given-up-in-order}
 use Rattle.claims.proofs.Shortfall.{board-shortfall}
+use Rattle.claims.proofs.Promise.{board-promise, never-sold-out}
 use Rattle.lines.proofs.ByteByByte.{byte-by-byte}
 use Rattle.lines.proofs.NeverMet.{never-met}
 use Rattle.lines.proofs.NeverMet.MayMeet.{opened-shallow}
@@ -31,6 +33,10 @@ returns c =
       board-shortfall = board-shortfall;
       baked-somewhere = baked-somewhere;
       zero-suffices = zero-suffices;
+      promised-least = promised-least;
+      board-promise = board-promise;
+      never-sold-out = never-sold-out;
+      longer-too = longer-too;
       characterised = characterised;
       never-idle = never-idle;
       least-last-level0 = least-last-level0;

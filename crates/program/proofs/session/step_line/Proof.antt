@@ -3,7 +3,7 @@ use mathlib.Core.Path.{sym, ap, _∙_}
 use borrow.Author.Needs.{needs}
 use Rattle.reading.specs.Answers.{asked-result}
 use Rattle.program.proofs.Stepping.Steps.{did-as}
-use Rattle.program.proofs.Stepping.Requests.{line-refused, line-opens, open-for-admit, line-admits, open-for-close, line-closes}
+use Rattle.program.proofs.Stepping.Requests.{line-refused, line-opens, open-for-admit, line-admits, open-for-close, line-closes, open-for-promise, line-promises}
 use Rattle.program.proofs.session.step_line.Statement.{statement}
 use Rattle.program.proofs.session.step_line.Tie as tie
 
@@ -34,6 +34,15 @@ close-line-requires c κs =
     let r = m .before .before in
     let s = r .before .before .before .before .before in
     (s .pre .0, (open-for-close _ _ (sym (ap asked-result (m .enum-told .given .1)) ∙ r .read-line .ensures), s .pre .1))
+
+enum-told-2 : tie.Need-enum-told-2
+enum-told-2 c = search needs
+
+promise-line-requires : tie.Need-promise-line-requires
+promise-line-requires c κs =
+    let m = c in
+    let r = m .before .before in
+    (r .before .before .before .before .before .pre .0, open-for-promise _ _ (sym (ap asked-result (m .enum-told2 .given .1)) ∙ r .read-line .ensures))
 
 enum-known-asked-3 : tie.Need-enum-known-asked-3
 enum-known-asked-3 c = search needs
@@ -67,6 +76,11 @@ returns-3 c =
 
 returns-4 : tie.Need-returns-4
 returns-4 c =
+    let m = c .before in
+    did-as (line-promises _ _ (sym (ap asked-result (m .enum-told2 .given .1)) ∙ m .before .before .read-line .ensures)) (c .promise-line .ensures _ _)
+
+returns-5 : tie.Need-returns-5
+returns-5 c =
     let m = c .before .before in
     did-as (line-refused _ _ _ (sym (ap asked-result (m .asked3 .given .1)) ∙ m .before .before .read-line .ensures)) (c .refuse .ensures _ _)
 
@@ -81,6 +95,8 @@ step-line-spec =
     admit-line-requires
     enum-told
     close-line-requires
+    enum-told-2
+    promise-line-requires
     enum-known-asked-3
     refuse-requires
     returns
@@ -89,4 +105,5 @@ step-line-spec =
     same-length-2
     same-length-3
     returns-3
-    returns-4)
+    returns-4
+    returns-5)

@@ -1,0 +1,13 @@
+-- What can be promised beside the jobs that are seen of a board, sound or not.
+use Rattle.rule.specs.Promise.{least-promised}
+use Rattle.board.specs.declared.Board.{Board}
+use Rattle.board.specs.declared.Promised.{Promised}
+use Rattle.board.specs.Limits.{longest-laxity}
+use Rattle.board.specs.Rows.{first-given, promise-rows}
+use Rattle.board.specs.Held.{slot-of}
+use Rattle.board.specs.Promise.{promised-with}
+use Rattle.counts.specs.Seen.{seen}
+
+-- row 3, and then the least laxity beside these jobs; on a sound board this is 02's answer (proofs/OnSound)
+unfoldable pub promised-seen : Board → Promised
+promised-seen b = promised-with (first-given (promise-rows (slot-of b))) (least-promised longest-laxity (slot-of b) (seen b))

@@ -1,0 +1,39 @@
+// What can still be promised: 02's rows 2 and 3 in order, then the least laxity that one job more can have.
+ghost use mathlib.Core.Path.{_≡_};
+ghost use Rattle.board.specs.Promise.{promised-refused, promised};
+ghost use Rattle.promising.specs.Inner.Seen.{promised-seen};
+use board::Board;
+use board::Laxity;
+use board::Promised;
+
+// The answer of a refused call.
+fn refused(number: u8) -> Promised
+    ensures { λ r. ⌜ r ≡ promised-refused number ⌝ }
+{
+    Promised {
+        refusal: number,
+        laxity: Laxity(0),
+    }
+}
+
+// What can be promised beside the jobs that are seen of a board, sound or not. On a sound board these are all.
+pub fn promise_seen(b: Board) -> Promised
+    ensures { λ r. ⌜ r ≡ promised-seen b ⌝ }
+{
+    if b.slot.0 == Board::LAST_SLOT + 1 {
+        return refused(3);
+    }
+    let laxity = search::promise(b);
+    Promised { refusal: 0, laxity }
+}
+
+// What can be promised: the least laxity from 1 to the longest such that some plan bakes one job more of it and all on the board, 0 for none.
+pub fn promise(b: Board) -> Promised
+    ensures { λ r. ⌜ r ≡ promised b ⌝ }
+{
+    if soundness::is_sound(b) {
+        promise_seen(b)
+    } else {
+        refused(2)
+    }
+}
