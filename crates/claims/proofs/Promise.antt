@@ -26,4 +26,4 @@ board-promise b s = record { still = still b s; carried = promise-carried b }
 
 pub never-sold-out : NeverSoldOut
 unfolding NeverSoldOut
-never-sold-out b h t g new w i j P z = still b (promise-asks-sound b h) t g new .zero-only-if (sym (promise-carried b h) ∙ z) w i j P
+never-sold-out b h t g new w i j P z = still b (promise-asks-sound b h) t g new .zero-only-if (sym (promise-carried b h) ∙ z) w i (omega arith) P

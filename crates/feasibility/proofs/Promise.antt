@@ -57,7 +57,7 @@ module _ {now : ℕ} {A : List Job} {t : ℕ} (W : Waiting now A) (N : NewTicket
       record {
         within = ⊎-elim (λ (h : 1 ≤ w). F .passes h .0) (λ h. omega arith) (cmp 1 w);
         kept = kept;
-        least = λ v h k. no v h (F .less v h k);
+        least = λ v h k. no v h (F .less v h (omega arith));
         zero-only-if = λ e v h k. no v h (F .none e v h k);
         zero-if = λ f. ⊎-elim (λ (h : 1 ≤ w). absurd (f w h (F .passes h .0) (kept h))) (λ h. omega arith) (cmp 1 w);
       }

@@ -18,7 +18,14 @@ pub struct Case {
 }
 
 pub fn all() -> Vec<Case> {
-    let mut cases = vec![sample(), board_nine(), given_up(), shortfall()];
+    let mut cases = vec![
+        sample(),
+        board_nine(),
+        given_up(),
+        shortfall(),
+        promise(),
+        sold_out(),
+    ];
     cases.extend(generated());
     cases.extend(in_pieces());
     cases.extend(at_the_buffer());
@@ -103,6 +110,59 @@ fn shortfall() -> Case {
     expected.extend(b"B,4,0,0,0,0\nT,0,2,2,0\nT,1,2,1,1\n");
     Case {
         name: "shortfall".to_string(),
+        bytes,
+        piece: 0,
+        expected: Some(expected),
+    }
+}
+
+/// 'What can we still promise?' (02, Six): the last full wait counts and not the first,
+/// and a rack that is lost already leaves nothing to promise.
+fn promise() -> Case {
+    let bytes =
+        b"Q\nD,1\nQ\nA,1,1,1\nQ\nA,2,4,0\nA,3,4,1\nA,4,4,0\nQ\nA,5,4,1\nQ\nB\nQ\nB\nQ\nQ,\nq\n"
+            .to_vec();
+    let mut expected =
+        b"R,1,15\nD,1\nQ,1\nA,1,1\nQ,2\nA,2,4\nA,3,4\nA,4,4\nQ,5\nA,5,4\nQ,0\n".to_vec();
+    expected.extend(b"B,1,2,0,1,1\nG,1,1,1\nQ,4\nB,2,4,0,0,0\nQ,3\nR,16,13\nR,17,12\n");
+    expected.extend(b"T,0,2,2,0\nT,1,3,0,1\n");
+    Case {
+        name: "promise".to_string(),
+        bytes,
+        piece: 0,
+        expected: Some(expected),
+    }
+}
+
+/// Racks of wait 32, eight in each of four slots, and four more: they take all slots up
+/// to the longest wait, so nothing can be promised, though none is lost.
+fn sold_out() -> Case {
+    let (mut bytes, mut expected) = (b"D,0\n".to_vec(), b"D,0\n".to_vec());
+    let mut line = |asked: String, told: String| {
+        bytes.extend(asked.bytes());
+        expected.extend(told.bytes());
+    };
+    for slot in 1..=4 {
+        for ticket in 8 * slot - 7..=8 * slot {
+            line(
+                format!("A,{ticket},32,0\n"),
+                format!("A,{ticket},{}\n", slot + 31),
+            );
+        }
+        line("B\n".to_string(), format!("B,{slot},{slot},0,0,0\n"));
+    }
+    for (ticket, wait) in [(33, 1), (34, 1), (35, 1), (36, 0)] {
+        line(
+            format!("A,{ticket},32,0\nQ\n"),
+            format!("A,{ticket},36\nQ,{wait}\n"),
+        );
+    }
+    line(
+        "B\nQ\n".to_string(),
+        "B,5,5,0,0,0\nQ,32\nT,0,36,5,0\n".to_string(),
+    );
+    Case {
+        name: "sold out".to_string(),
         bytes,
         piece: 0,
         expected: Some(expected),

@@ -46,7 +46,9 @@ pub fn board(binary: &str) -> Program {
         ("A,1,1,1\n", "A,1,1\n"),
         ("A,2,2,1\n", "A,2,2\n"),
         ("A,3,2,0\n", "A,3,2\n"),
+        ("Q\n", "Q,0\n"),
         ("B\n", "B,1,3,0,1,1\nG,1,1,1\n"),
+        ("Q\n", "Q,2\n"),
         ("B\n", "B,2,2,1,0,0\n"),
         ("B\n", "B,3,0,0,0,0\n"),
     ];
@@ -72,7 +74,7 @@ pub fn sheet(binary: &str) -> Program {
         ("B\nB\nB\n", ""),
         (&closings, ""),
         ("B\n", &page(first, "2     1")),
-        ("hello\nB\n", ""),
+        ("hello\nQ\nB\n", ""),
         ("A,9,1,\nB\n", ""),
     ];
     let in_pieces = [("D", ""), (",1\nA,", ""), ("7,3,0\nB", "")];

@@ -109,7 +109,7 @@ module _ (longest now : ℕ) (A : List Job) where
   unfolding least-promised
   full-promise F =
       least-passing-only (least-passing-is _ _)
-      record { passes = λ i. absurd (omega arith); less = λ v i j. absurd (omega arith); none = λ e v i j. up-to-full F v i j }
+      record { passes = λ i. absurd (omega arith); less = λ v i j. absurd (omega arith); none = λ e v i j. up-to-full F v i (omega arith) }
 
   -- otherwise it is the one after the last full one
   pub after-full-promise : {m : ℕ} → ((r : Job) → List·Memᴰ r A → laxity now r ≤ longest) → LastFull now A longest m → m < longest

@@ -86,7 +86,7 @@ whole c = omega arith
 
 returns-2 : tie.Need-returns-2 Inv-loop μ-loop
 unfolding longest-laxity
-returns-2 c = sold-out-found _ (c .before .before .loop .inv .4) (whole (c .before)) (c .if3 .taken)
+returns-2 c = sold-out-found _ (c .before .before .loop .inv .4) (whole (c .before)) (omega (arith, c .if3 .taken))
 
 add-t9 : tie.Need-add-t9 Inv-loop μ-loop
 unfolding longest-laxity
