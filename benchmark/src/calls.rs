@@ -1,10 +1,12 @@
-//! Single calls: closing boards of several sizes and shapes, admitting on a nearly full one.
+//! Single calls: closing boards of several sizes and shapes, admitting on a nearly full one, asking what can be promised.
 
 use crate::convert;
 use crate::timed::Timed;
 use model::board::{Board, Job};
 use model::calls::{self, Closed, Expired};
 use model::draw::Draw;
+use model::samples;
+use model::soundness::is_sound;
 use oven::{Slot, Wait};
 use std::hint::black_box;
 use std::time::{Duration, Instant};
@@ -171,6 +173,28 @@ fn admitting() -> Timed {
     }
 }
 
+/// Asks what can be promised on a board of this kind. Sorting checks soundness as the model does, and sorts a copy of the racks.
+fn promising(name: &str, board: Board) -> Timed {
+    let given = convert::board(&board);
+    let by_sorting = |board: &Board| {
+        assert!(is_sound(board));
+        benchmark::least_wait(&mut board.jobs().to_vec(), board.slot)
+    };
+    let wait = oven::calls::promise(given).wait.0;
+    assert_eq!(Ok(wait), calls::promise(&board));
+    assert_eq!(wait, by_sorting(&board));
+    let times = least(&mut [
+        &mut || keep(oven::calls::promise(black_box(given))),
+        &mut || keep(calls::promise(black_box(&board))),
+        &mut || keep(by_sorting(black_box(&board))),
+    ]);
+    Timed {
+        name: format!("promising on {name}"),
+        same_lists: true,
+        times,
+    }
+}
+
 /// Opens a board, which does little else than to hand one over.
 fn opening() -> Timed {
     Timed {
@@ -199,5 +223,8 @@ pub fn pass() -> Vec<Timed> {
     }
     all.push(closing(256, Shape::AdmittedWithLongest));
     all.extend([admitting(), opening(), soundness()]);
+    let filled = samples::filled_board(&mut Draw::new(7), 100, 31, 0);
+    all.push(promising("31 racks, wait 32 left", filled));
+    all.push(promising("256 racks, none left", board(256, Shape::Spread)));
     all
 }

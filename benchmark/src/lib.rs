@@ -1,6 +1,7 @@
 //! The rule by sorting, for comparison: at every level the group is sorted by last slot in place, and its tight set is a beginning of it.
 
 use model::board::Job;
+use model::limits::LONGEST_LAXITY;
 use model::rule::bit;
 
 /// The rack to bake, none where there are no racks, and the shortfall: how far the smallest excess of all racks is below zero. The racks are left in
@@ -18,6 +19,26 @@ pub fn job_to_bake(jobs: &mut [Job], slot: u32, depth: u32) -> (Option<Job>, u32
         tight = tight_by_sorting(group, slot).0;
     }
     (group.first().copied(), (-smallest).max(0) as u32)
+}
+
+/// The least wait that can be promised, 0 for none: in the order of their last slots each rack takes a slot of its own. The racks are left in that order.
+pub fn least_wait(jobs: &mut [Job], slot: u32) -> u32 {
+    jobs.sort_unstable_by_key(|job| job.deadline);
+    let mut full = 0;
+    for (place, job) in (1..).zip(jobs.iter()) {
+        let wait = job.deadline - slot + 1;
+        if wait < place {
+            return 0;
+        }
+        if wait == place {
+            full = place;
+        }
+    }
+    if full == LONGEST_LAXITY {
+        0
+    } else {
+        full + 1
+    }
 }
 
 /// Moves the racks that pass to the front, and counts them.

@@ -20,8 +20,8 @@ pub record PromiseSays (b : Board) : Type 0 where
 unfoldable pub BoardPromise : Type 0
 BoardPromise = (b : Board) → sound b ≡ true → PromiseSays b
 
--- 'A sold-out day must never be reported while a plan exists': the answer 0, on any board that is not refused, while some plan bakes every job on the board
--- and one further of a wait that can be asked for.
+-- 'A sold-out day must never be reported while a plan exists': while some plan bakes every job on the board and one further, of a wait from 1 to the
+-- longest, an answer that is not refused is not 0.
 unfoldable pub NeverSoldOut : Type 0
 NeverSoldOut =
     (b : Board) → promised b .refusal ≡ 0 → (ticket grade : ℕ) → b .highest < ticket → (w : ℕ) → 1 ≤ w → w ≤ longest-laxity
