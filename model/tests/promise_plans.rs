@@ -4,12 +4,10 @@
 
 mod common;
 
-use std::collections::BTreeSet;
-
 use common::boards::{drawn_board, held, large_board};
 use common::spread::Spread;
 use common::{
-    book_from, promise_by_matching, promised_by_matching, slots_ahead, smallest_excess,
+    book_from, promise_by_matching, promised_by_matching, sets_baked, slots_ahead, smallest_excess,
     with_further,
 };
 use model::board::{Board, Job};
@@ -43,20 +41,9 @@ fn all_by_trying(jobs: &[Job], slot: u32) -> bool {
     goes_on(jobs) || (0..jobs.len()).any(|place| goes_on(&without(place)))
 }
 
-/// Whether some plan bakes all of these racks: a set is a number, bit i of it is rack
-/// i, and these are the sets that any plan bakes up to a slot.
+/// Whether some plan bakes all of these racks: the set of all is one that a plan bakes.
 fn all_by_sets(jobs: &[Job], slot: u32) -> bool {
-    let mut sets: BTreeSet<u32> = BTreeSet::from([0]);
-    for slot in slot..slot + slots_ahead(jobs, slot) {
-        for set in sets.clone() {
-            for (place, job) in jobs.iter().enumerate() {
-                if set >> place & 1 == 0 && slot <= job.deadline {
-                    sets.insert(set | 1 << place);
-                }
-            }
-        }
-    }
-    sets.contains(&((1 << jobs.len()) - 1))
+    sets_baked(jobs, slot).contains(&((1 << jobs.len()) - 1))
 }
 
 /// The least wait up to the longest such that all racks, a further one of this wait

@@ -3,10 +3,8 @@
 
 mod common;
 
-use std::collections::BTreeSet;
-
 use common::boards::{drawn_board, large_board};
-use common::{book_from, least_by_matching, slots_ahead, smallest_excess, Closing};
+use common::{book_from, least_by_matching, sets_baked, slots_ahead, smallest_excess, Closing};
 use model::board::Job;
 use model::draw::Draw;
 use model::limits::{LAST_SLOT, LONGEST_LAXITY, MOST_HELD};
@@ -35,20 +33,9 @@ fn least_of_the_rest(jobs: &[Job], slot: u32) -> u32 {
     out.len() as u32 + least_by_trying(&left, slot + 1)
 }
 
-/// The least number given up by any plan, where there are too many plans to try
-/// one by one: which sets of racks are baked by any plan up to a slot.
+/// The least number given up by any plan, by the sets of racks that plans bake.
 fn least_by_sets(jobs: &[Job], slot: u32) -> u32 {
-    // A set is a number; bit i of it is rack i.
-    let mut sets: BTreeSet<u32> = BTreeSet::from([0]);
-    for slot in slot..slot + slots_ahead(jobs, slot) {
-        for set in sets.clone() {
-            for (place, job) in jobs.iter().enumerate() {
-                if set >> place & 1 == 0 && slot <= job.deadline {
-                    sets.insert(set | 1 << place);
-                }
-            }
-        }
-    }
+    let sets = sets_baked(jobs, slot);
     let most = sets.iter().map(|set| set.count_ones()).max();
     jobs.len() as u32 - most.unwrap_or(0)
 }

@@ -7,6 +7,8 @@ pub mod boards;
 pub mod paper;
 pub mod spread;
 
+use std::collections::BTreeSet;
+
 use model::board::{open, Board, Job};
 use model::book::Book;
 use model::calls::{admit, close, Closed};
@@ -239,6 +241,22 @@ pub fn each_question<E: FnMut(&Question, &[String])>(mut input: &[u8], mut each:
 pub fn slots_ahead(jobs: &[Job], slot: u32) -> u32 {
     let longest = jobs.iter().map(|job| laxity(job, slot) as u32).max();
     longest.unwrap_or(0)
+}
+
+/// The sets of these racks that any plan from this slot on bakes, for where there are
+/// too many plans to try one by one. A set is a number; bit i of it is rack i.
+pub fn sets_baked(jobs: &[Job], slot: u32) -> BTreeSet<u32> {
+    let mut sets = BTreeSet::from([0]);
+    for slot in slot..slot + slots_ahead(jobs, slot) {
+        for set in sets.clone() {
+            for (place, job) in jobs.iter().enumerate() {
+                if set >> place & 1 == 0 && slot <= job.deadline {
+                    sets.insert(set | 1 << place);
+                }
+            }
+        }
+    }
+    sets
 }
 
 /// A book of these racks that begins with this slot, for the plans from it on.
