@@ -1,4 +1,4 @@
-//! Admitting, closing, and asking what can still be promised.
+//! Admitting, closing, asking what can still be promised, and withdrawing.
 //!
 //! A board is written only after every check has passed, so a refused call
 //! leaves it as it came, an unsound one included.
@@ -134,4 +134,15 @@ pub fn promise(board: &Board) -> Result<u32, Refusal> {
     check_sound(board)?;
     rows::promising(standing(board))?;
     Ok(promise::least_wait(board.jobs(), board.slot))
+}
+
+/// Takes the rack with this ticket off the board; the answer is its grade, which the
+/// tally needs. 'Slot and highest ticket go on as they were' (02, Seven).
+pub fn withdraw(board: &mut Board, ticket: u32) -> Result<u32, Refusal> {
+    check_sound(board)?;
+    let withdrawn = rows::withdrawing(standing(board), board.jobs(), ticket)?;
+    let mut left = board.jobs().to_vec();
+    left.retain(|job| *job != withdrawn);
+    board.put(&left);
+    Ok(withdrawn.grade)
 }

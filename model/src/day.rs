@@ -7,7 +7,7 @@ use crate::calls::{self, Closed};
 use crate::limits::MOST_HELD;
 use crate::lines::{self, Request};
 use crate::refusal::Refusal;
-use crate::tally::{Tally, ADMITTED, BAKED, EXPIRED};
+use crate::tally::{Tally, ADMITTED, BAKED, EXPIRED, WITHDRAWN};
 
 /// The day's state: the board, if one is open, and the tally.
 #[derive(Clone, Debug, Default)]
@@ -23,6 +23,7 @@ pub enum Done {
     Admitted { ticket: u32, deadline: u32 },
     Closed { slot: u32, closed: Closed },
     Promised { wait: u32 },
+    Withdrawn { ticket: u32 },
 }
 
 impl Day {
@@ -43,6 +44,7 @@ impl Day {
             }
             Request::Close => self.close(),
             Request::Promise => self.promise(),
+            Request::Withdraw { ticket } => self.withdraw(ticket),
         }
     }
 
@@ -90,6 +92,12 @@ impl Day {
     fn promise(&mut self) -> Result<Done, Refusal> {
         let wait = calls::promise(self.open_board())?;
         Ok(Done::Promised { wait })
+    }
+
+    fn withdraw(&mut self, ticket: u32) -> Result<Done, Refusal> {
+        let grade = calls::withdraw(self.open_board(), ticket)?;
+        self.tally.record(WITHDRAWN, grade)?;
+        Ok(Done::Withdrawn { ticket })
     }
 }
 

@@ -20,6 +20,10 @@ pub enum Request {
     Close,
     /// What can still be promised?
     Promise,
+    /// Take a rack back.
+    Withdraw {
+        ticket: u32,
+    },
 }
 
 /// The next line without its end, or none at the end of the input: 'a line ends at
@@ -42,7 +46,7 @@ pub fn read(line: &[u8]) -> Result<Request, Refusal> {
     }
     let fields: Vec<&[u8]> = line.split(|&byte| byte == b',').collect();
     let wanted = match fields[0] {
-        b"D" => 2,
+        b"D" | b"W" => 2,
         b"A" => 4,
         b"B" | b"Q" => 1,
         _ => return Err(Refusal::Letter),
@@ -60,6 +64,9 @@ pub fn read(line: &[u8]) -> Result<Request, Refusal> {
             grade: number_or_blank(fields[3])?,
         }),
         b"B" => Ok(Request::Close),
+        b"W" => Ok(Request::Withdraw {
+            ticket: number(fields[1])?,
+        }),
         _ => Ok(Request::Promise),
     }
 }

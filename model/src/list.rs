@@ -1,4 +1,4 @@
-//! A list of admittings and closings on one board.
+//! A list of admittings, closings and withdrawals on one board.
 
 use crate::board::{Board, Job};
 use crate::calls::{self, Closed};
@@ -17,6 +17,9 @@ pub enum Call {
         /// Length of the lent list.
         lent: usize,
     },
+    Withdraw {
+        ticket: u32,
+    },
 }
 
 /// The answer of a call.
@@ -25,6 +28,8 @@ pub enum Answer {
     /// The rack's last slot.
     Admitted(u32),
     Closed(Closed),
+    /// The grade of the rack taken off.
+    Withdrawn(u32),
     Refused(Refusal),
 }
 
@@ -51,6 +56,10 @@ where
             },
             Call::Close { lent } => match calls::close_with(board, lent, &mut pick) {
                 Ok(closed) => Answer::Closed(closed),
+                Err(refusal) => Answer::Refused(refusal),
+            },
+            Call::Withdraw { ticket } => match calls::withdraw(board, ticket) {
+                Ok(grade) => Answer::Withdrawn(grade),
                 Err(refusal) => Answer::Refused(refusal),
             },
         });

@@ -1,4 +1,6 @@
 //! Plans of a day book, and the most that any plan bakes.
+//!
+//! A book is that of one stretch, and k counts its slots from its own first one on.
 
 use crate::board::Job;
 use crate::book::Book;
@@ -29,7 +31,8 @@ pub fn is_plan(book: &Book, plan: &Plan) -> bool {
     true
 }
 
-/// The plan that a board's answers make: a closing's rack, or none for 'empty'.
+/// The plan that a board's answers make in one stretch: a closing's rack, or none for
+/// 'empty'.
 pub fn plan_of(answers: &[Answer]) -> Plan {
     let mut plan = Plan::new();
     for answer in answers {
@@ -39,6 +42,13 @@ pub fn plan_of(answers: &[Answer]) -> Plan {
         }
     }
     plan
+}
+
+/// The plans that a board's answers make, one for each stretch: a withdrawal that is
+/// let through ends a stretch and begins the next.
+pub fn plans_of(answers: &[Answer]) -> Vec<Plan> {
+    let stretches = answers.split(|answer| matches!(answer, Answer::Withdrawn(_)));
+    stretches.map(plan_of).collect()
 }
 
 /// What a plan bakes in the first k slots.

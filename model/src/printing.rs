@@ -3,7 +3,7 @@
 use crate::calls::Closed;
 use crate::day::{Day, Done};
 use crate::refusal::Refusal;
-use crate::tally::{Tally, ADMITTED, BAKED, EXPIRED};
+use crate::tally::{Tally, ADMITTED, BAKED, EXPIRED, WITHDRAWN};
 
 /// The lines for what a line did.
 pub fn done(done: &Done) -> Vec<String> {
@@ -15,6 +15,8 @@ pub fn done(done: &Done) -> Vec<String> {
         Done::Closed { slot, closed } => closing(*slot, closed),
         // Q: a wait was promised, or none could be.
         Done::Promised { wait } => vec![format!("Q,{wait}")],
+        // W: a rack was withdrawn.
+        Done::Withdrawn { ticket } => vec![format!("W,{ticket}")],
     }
 }
 
@@ -45,10 +47,11 @@ pub fn totals(day: &Day) -> Vec<String> {
     grades.map(|grade| total(&day.tally, grade)).collect()
 }
 
-/// T: the tally of a grade.
+/// T: the tally of a grade, with the racks withdrawn as 'its sixth field' (02, Seven).
 fn total(tally: &Tally, grade: u32) -> String {
     let admitted = tally.count(ADMITTED, grade);
     let baked = tally.count(BAKED, grade);
     let expired = tally.count(EXPIRED, grade);
-    format!("T,{grade},{admitted},{baked},{expired}")
+    let withdrawn = tally.count(WITHDRAWN, grade);
+    format!("T,{grade},{admitted},{baked},{expired},{withdrawn}")
 }

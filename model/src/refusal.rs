@@ -19,7 +19,7 @@ pub enum Refusal {
     SlotFull = 7,
     /// The lent list has fewer than 256 entries.
     ListShort = 8,
-    /// Tally: kind above 2 or grade above 7.
+    /// Tally: kind above 3 or grade above 7.
     NoSuchCount = 9,
     /// Tally: that count is already 8,000,000.
     CountFull = 10,
@@ -31,10 +31,12 @@ pub enum Refusal {
     FieldCount = 13,
     /// Line: a field after the first is not a number.
     Field = 14,
-    /// Line: D while a board is open, A, B or Q while none is.
+    /// Line: D while a board is open, A, B, Q or W while none is.
     NotNow = 15,
     /// Sheet: a slot above 1,000,000, a grade above 7 or more than 255 given up.
     OffSheet = 16,
+    /// Withdrawing: the ticket is not on the board or was admitted in this slot.
+    NotWaiting = 17,
 }
 
 impl Refusal {

@@ -1,8 +1,8 @@
-//! Rows 3 to 8: the checks on a call's arguments.
+//! Rows 3 to 8 and 17: the checks on a call's arguments.
 //!
 //! A board and a day book both put them, each with its own figures.
 
-use crate::board::is_grade;
+use crate::board::{is_grade, Job};
 use crate::limits::{LAST_SLOT, LONGEST_LAXITY, MOST_HELD, MOST_PER_SLOT};
 use crate::refusal::Refusal;
 
@@ -54,4 +54,16 @@ pub fn closing(at: Standing, lent: usize) -> Result<(), Refusal> {
 /// Row 3 alone: of a promise 'numbers 2 and 3 apply' (02, Six).
 pub fn promising(at: Standing) -> Result<(), Refusal> {
     not_ended(at)
+}
+
+/// Rows 3 and 17, in order: 'the ticket is not on the board or was admitted in this
+/// slot' (02, Seven). A board puts them to its racks, a day book to its racks in date
+/// and not yet baked there. The answer is the rack to be taken off.
+pub fn withdrawing(at: Standing, jobs: &[Job], ticket: u32) -> Result<Job, Refusal> {
+    not_ended(at)?;
+    let with_ticket = jobs.iter().find(|job| job.ticket == ticket);
+    match with_ticket {
+        Some(job) if job.admitted != at.slot => Ok(*job),
+        _ => Err(Refusal::NotWaiting),
+    }
 }

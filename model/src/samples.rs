@@ -1,9 +1,10 @@
-//! Small random sound boards and small random lists of calls.
+//! Small random sound boards, small random lists of calls, and tickets to withdraw.
 
 use crate::board::{Board, Job};
 use crate::draw::Draw;
 use crate::limits::{DEEPEST, LAST_SLOT, LONGEST_LAXITY, MOST_HELD, MOST_PER_SLOT};
-use crate::list::Call;
+use crate::list::{self, Call};
+use crate::rule;
 
 /// A slot in which a call can pass row 3: often near either end of a book.
 pub fn slot(draw: &mut Draw) -> u32 {
@@ -15,7 +16,7 @@ pub fn slot(draw: &mut Draw) -> u32 {
     }
 }
 
-/// A slot for an empty board: any that is sound, the one past the book's end too.
+/// Any slot that is sound, the one past the book's end too.
 pub fn first_slot(draw: &mut Draw) -> u32 {
     if draw.one_in(30) {
         return LAST_SLOT + 1;
@@ -35,6 +36,15 @@ pub fn highest_ticket(draw: &mut Draw) -> u32 {
 
 /// A sound board with up to `most` racks, in a slot before the book's end.
 pub fn board(draw: &mut Draw, most: u32) -> Board {
+    board_in(draw, slot, most)
+}
+
+/// `board` in any slot that is sound, the one past the book's end too.
+pub fn any_board(draw: &mut Draw, most: u32) -> Board {
+    board_in(draw, first_slot, most)
+}
+
+fn board_in(draw: &mut Draw, slot: fn(&mut Draw) -> u32, most: u32) -> Board {
     let depth = draw.between(0, DEEPEST);
     let slot = slot(draw);
     let many = draw.between(0, most) as usize;
@@ -162,6 +172,43 @@ pub fn all_due(mut board: Board) -> Board {
     board
 }
 
+/// The ticket of a rack that can be withdrawn, if there is one: it was admitted before
+/// this slot. Half of the time it is the rack that the rule bakes next, so that another
+/// one is baked in its place.
+pub fn to_withdraw(draw: &mut Draw, board: &Board) -> Option<u32> {
+    let is_earlier = |job: &Job| job.admitted < board.slot;
+    let next = rule::job_to_bake(board.jobs(), board.slot, board.depth);
+    if let Some(next) = next.filter(is_earlier) {
+        if draw.one_in(2) {
+            return Some(next.ticket);
+        }
+    }
+    let mut earlier = board.jobs().to_vec();
+    earlier.retain(is_earlier);
+    if earlier.is_empty() {
+        return None;
+    }
+    Some(draw.pick(&earlier).ticket)
+}
+
+/// A ticket that cannot be withdrawn: 0, one that is not on the board, or one that was
+/// admitted in this slot, where there is such a rack.
+pub fn not_to_withdraw(draw: &mut Draw, board: &Board) -> u32 {
+    let highest = board.highest_ticket;
+    let near = highest.saturating_add(draw.between(0, 2));
+    let any = draw.between(0, highest);
+    let mut tickets = vec![0, near, any, u32::MAX];
+    tickets.retain(|&ticket| board.jobs().iter().all(|job| job.ticket != ticket));
+    tickets.extend(admitted_now(board));
+    draw.pick(&tickets)
+}
+
+/// The tickets on the board that were admitted in this slot.
+pub fn admitted_now(board: &Board) -> Vec<u32> {
+    let now = board.jobs().iter().filter(|job| job.admitted == board.slot);
+    now.map(|job| job.ticket).collect()
+}
+
 /// How crowded a list of calls is, and which of its calls are refused.
 #[derive(Clone, Copy, Debug)]
 pub struct Crowd {
@@ -169,6 +216,9 @@ pub struct Crowd {
     pub calls: u32,
     /// About one call in so many is a closing.
     pub closing: u32,
+    /// About one of the other calls in so many is a withdrawal, if a rack can be
+    /// withdrawn.
+    pub withdrawing: u32,
     /// Waits asked for are mostly 1 to this.
     pub longest: u32,
     /// About one argument in so many is out of range.
@@ -181,31 +231,66 @@ impl Crowd {
         Crowd {
             calls: draw.between(1, most_calls),
             closing: draw.pick(&[2, 2, 3, 4, 9]),
+            withdrawing: draw.pick(&[2, 3, 6, 20]),
             longest: draw.pick(&[1, 2, 3, 4, 6, LONGEST_LAXITY]),
             wrong: draw.pick(&[5, 20, 100]),
         }
     }
+
+    /// A random crowd with more racks than can be baked, from which racks are often
+    /// withdrawn. It has at most this many calls, and at least half of them.
+    pub fn overfull(draw: &mut Draw, most_calls: u32) -> Crowd {
+        Crowd {
+            calls: draw.between(most_calls / 2, most_calls),
+            closing: draw.pick(&[3, 4]),
+            withdrawing: draw.pick(&[3, 4, 6]),
+            longest: draw.pick(&[3, 4, 6, LONGEST_LAXITY]),
+            wrong: draw.pick(&[20, 100]),
+        }
+    }
 }
 
-/// A list of calls for an empty board with this depth and highest ticket.
+/// A list of calls for an empty board with this depth and highest ticket, in any slot.
 pub fn calls(draw: &mut Draw, depth: u32, highest: u32, crowd: Crowd) -> Vec<Call> {
+    // The board as the calls leave it where the book's end is far.
+    let mut board = Board::holding(depth, 1, highest, &[]);
     let mut highest = highest;
     let mut calls = Vec::new();
     for _ in 0..crowd.calls {
-        if draw.one_in(crowd.closing) {
-            let lent = closing_list(draw, crowd.wrong);
-            calls.push(Call::Close { lent });
-        } else {
-            let ticket = ticket(draw, highest, crowd.wrong);
-            calls.push(Call::Admit {
-                ticket,
-                laxity: laxity(draw, crowd),
-                grade: grade(draw, depth, crowd.wrong),
-            });
+        let call = call(draw, &board, highest, crowd);
+        if let Call::Admit { ticket, .. } = call {
             highest = highest.max(ticket);
         }
+        list::play(&mut board, &[call]);
+        calls.push(call);
     }
     calls
+}
+
+/// A call for this board. `highest` is the highest ticket asked for so far.
+fn call(draw: &mut Draw, board: &Board, highest: u32, crowd: Crowd) -> Call {
+    if draw.one_in(crowd.closing) {
+        let lent = closing_list(draw, crowd.wrong);
+        return Call::Close { lent };
+    }
+    if draw.one_in(crowd.withdrawing) {
+        if let Some(ticket) = withdrawn_ticket(draw, board, crowd.wrong) {
+            return Call::Withdraw { ticket };
+        }
+    }
+    Call::Admit {
+        ticket: ticket(draw, highest, crowd.wrong),
+        laxity: laxity(draw, crowd),
+        grade: grade(draw, board.depth, crowd.wrong),
+    }
+}
+
+/// A ticket to withdraw; none where no rack can be withdrawn, but for a wrong one.
+fn withdrawn_ticket(draw: &mut Draw, board: &Board, wrong: u32) -> Option<u32> {
+    if draw.one_in(wrong) {
+        return Some(not_to_withdraw(draw, board));
+    }
+    to_withdraw(draw, board)
 }
 
 fn closing_list(draw: &mut Draw, wrong: u32) -> usize {

@@ -9,8 +9,10 @@ pub const ADMITTED: u32 = 0;
 pub const BAKED: u32 = 1;
 /// Kind of event: a rack was given up.
 pub const EXPIRED: u32 = 2;
+/// Kind of event: a rack was withdrawn.
+pub const WITHDRAWN: u32 = 3;
 /// Number of kinds.
-pub const KINDS: usize = 3;
+pub const KINDS: usize = 4;
 
 /// A count for each kind and each grade.
 #[derive(Clone, Debug, Default, PartialEq, Eq)]

@@ -1,11 +1,11 @@
-//! The tally's balance: admitted = baked + given up + racks on the board.
+//! The tally's balance: admitted = baked + given up + withdrawn + racks on the board.
 
 use model::day::Day;
 use model::draw::Draw;
 use model::inputs;
 use model::program::run;
 use model::samples::{self, Crowd};
-use model::tally::{ADMITTED, BAKED, EXPIRED};
+use model::tally::{ADMITTED, BAKED, EXPIRED, WITHDRAWN};
 
 /// Whether the balance holds for each of the eight grades.
 fn balanced(day: &Day) -> bool {
@@ -13,7 +13,7 @@ fn balanced(day: &Day) -> bool {
         let jobs = day.board.as_ref().map_or(&[][..], |board| board.jobs());
         let held = jobs.iter().filter(|job| job.grade == grade).count() as u32;
         let count = |kind| day.tally.count(kind, grade);
-        count(ADMITTED) == count(BAKED) + count(EXPIRED) + held
+        count(ADMITTED) == count(BAKED) + count(EXPIRED) + count(WITHDRAWN) + held
     })
 }
 
@@ -40,6 +40,7 @@ fn balance_after_every_line() {
         for call in samples::calls(&mut draw, depth, 0, crowd) {
             let line = match call {
                 model::list::Call::Close { .. } => "B".to_string(),
+                model::list::Call::Withdraw { ticket } => format!("W,{ticket}"),
                 model::list::Call::Admit {
                     ticket,
                     laxity,

@@ -2,11 +2,12 @@
 
 mod common;
 
-use common::Trial;
+use common::trials::Trial;
+use model::book::Book;
 use model::draw::Draw;
 use model::list::{play, Answer, Call};
 use model::plans::{
-    baked, every_plan, is_plan, is_unbeaten, most_baked, most_baked_by_trying, plan_of,
+    baked, every_plan, is_plan, is_unbeaten, most_baked, most_baked_by_trying, plan_of, plans_of,
 };
 use model::rule::job_to_bake;
 use model::samples;
@@ -18,19 +19,20 @@ fn board_and_book_agree_on_every_call() {
     for _ in 0..3_000 {
         let trial = Trial::drawn(&mut draw, 60);
         let mut board = trial.board();
-        let mut book = Trial {
-            calls: Vec::new(),
-            ..trial
-        }
-        .book();
+        let mut book = Book::begin(trial.depth, trial.slot, trial.highest);
         for call in &trial.calls {
             let answer = play(&mut board, &[*call]).remove(0);
             match book.take(call) {
-                Ok(()) => assert!(!matches!(answer, Answer::Refused(_))),
+                Ok(Some(next)) => {
+                    assert!(matches!(answer, Answer::Withdrawn(_)));
+                    book = next;
+                }
+                Ok(None) => assert!(matches!(answer, Answer::Admitted(_) | Answer::Closed(_))),
                 Err(refusal) => assert_eq!(answer, Answer::Refused(refusal)),
             }
             let ours = (board.slot, board.highest_ticket);
             assert_eq!(ours, (book.slot, book.highest_ticket));
+            assert_eq!(board.jobs(), book.waiting);
             assert!(is_sound(&board));
         }
     }
@@ -41,9 +43,12 @@ fn the_answers_form_a_plan() {
     let mut draw = Draw::new(12);
     for _ in 0..3_000 {
         let trial = Trial::drawn(&mut draw, 60);
-        let (book, plan) = (trial.book(), trial.plan(job_to_bake));
-        assert_eq!(plan.len(), book.closed());
-        assert!(is_plan(&book, &plan), "{trial:?}");
+        let (books, plans) = (trial.books(), plans_of(&trial.answers()));
+        assert_eq!(books.len(), plans.len());
+        for (book, plan) in books.iter().zip(&plans) {
+            assert_eq!(plan.len(), book.closed());
+            assert!(is_plan(book, plan), "{trial:?}");
+        }
     }
 }
 
@@ -53,11 +58,11 @@ fn no_plan_bakes_more_in_any_first_slots() {
     let (mut short_books, mut given_up) = (0, 0);
     for _ in 0..20_000 {
         let trial = Trial::drawn(&mut draw, 40);
-        let book = trial.book();
-        let plan = trial.plan(job_to_bake);
-        assert!(is_unbeaten(&book, &plan), "{trial:?}");
-        short_books += usize::from(book.closed() < 3);
-        let answers = play(&mut trial.board(), &trial.calls);
+        let (books, answers) = (trial.books(), trial.answers());
+        for (book, plan) in books.iter().zip(&plans_of(&answers)) {
+            assert!(is_unbeaten(book, plan), "{trial:?}");
+        }
+        short_books += usize::from(books.iter().all(|book| book.closed() < 3));
         given_up += usize::from(answers.iter().any(gives_up));
     }
     // The books are neither all trivial nor all roomy.
@@ -77,7 +82,8 @@ fn no_plan_bakes_more_on_longer_days() {
     let mut draw = Draw::new(14);
     for _ in 0..300 {
         let trial = Trial::drawn(&mut draw, 400);
-        assert!(is_unbeaten(&trial.book(), &trial.plan(job_to_bake)));
+        let stretches = trial.stretches();
+        assert!(stretches.iter().all(|s| s.is_unbeaten(job_to_bake)));
     }
 }
 
@@ -86,14 +92,14 @@ fn matching_finds_what_trying_every_plan_finds() {
     let mut draw = Draw::new(15);
     let mut tried = 0;
     while tried < 3_000 {
-        let trial = Trial::drawn(&mut draw, 12);
-        let book = trial.book();
-        if book.closed() > 4 || book.jobs.len() > 7 {
-            continue;
-        }
-        tried += 1;
-        for k in 0..=book.closed() {
-            assert_eq!(most_baked(&book, k), most_baked_by_trying(&book, k));
+        for book in Trial::drawn(&mut draw, 12).books() {
+            if book.closed() > 4 || book.jobs.len() > 7 {
+                continue;
+            }
+            tried += 1;
+            for k in 0..=book.closed() {
+                assert_eq!(most_baked(&book, k), most_baked_by_trying(&book, k));
+            }
         }
     }
 }
@@ -103,15 +109,16 @@ fn every_plan_is_a_plan_and_the_boards_is_among_them() {
     let mut draw = Draw::new(16);
     let mut tried = 0;
     while tried < 300 {
-        let trial = Trial::drawn(&mut draw, 10);
-        let book = trial.book();
-        if book.closed() > 4 {
-            continue;
+        for stretch in Trial::drawn(&mut draw, 10).stretches() {
+            let book = &stretch.book;
+            if book.closed() > 4 {
+                continue;
+            }
+            tried += 1;
+            let plans = every_plan(book, book.closed());
+            assert!(plans.iter().all(|plan| is_plan(book, plan)));
+            assert!(plans.contains(&stretch.plan(job_to_bake)));
         }
-        tried += 1;
-        let plans = every_plan(&book, book.closed());
-        assert!(plans.iter().all(|plan| is_plan(&book, plan)));
-        assert!(plans.contains(&trial.plan(job_to_bake)));
     }
 }
 
@@ -129,7 +136,7 @@ fn what_is_no_plan() {
         highest: 0,
         calls: vec![admit(1, 2), close, admit(2, 1), close, close],
     };
-    let book = trial.book();
+    let book = trial.books().remove(0);
     assert!(is_plan(&book, &vec![]));
     assert!(is_plan(&book, &vec![Some(1), Some(2), None]));
     assert!(is_plan(&book, &vec![None, Some(1)]));
@@ -138,7 +145,7 @@ fn what_is_no_plan() {
     assert!(!is_plan(&book, &vec![None, None, Some(2)]), "past its last");
     assert!(!is_plan(&book, &vec![Some(3)]), "not in the book");
     assert_eq!(most_baked(&book, 3), 2);
-    assert_eq!(baked(&trial.plan(job_to_bake), 3), 2);
+    assert_eq!(baked(&plan_of(&trial.answers()), 3), 2);
 }
 
 #[test]
@@ -154,7 +161,7 @@ fn refused_calls_leave_no_trace() {
         let without = Trial { calls, ..trial };
         let mut other = without.board();
         let others = play(&mut other, &without.calls);
-        assert_eq!((plan_of(&others), other), (plan_of(&answers), board));
+        assert_eq!((plans_of(&others), other), (plans_of(&answers), board));
     }
 }
 

@@ -4,7 +4,8 @@
 
 mod common;
 
-use common::{beaten, closings, worked, Pick};
+use common::trials::beaten;
+use common::{closings, worked, Pick};
 use model::board::{Board, Job};
 use model::draw::Draw;
 use model::rule::{bit, excess, first_due, group, job_to_bake, laxity, tight_laxity};

@@ -26,7 +26,7 @@ fn only_byte_10_ends_a_line() {
     assert_eq!(on_open_board("B\0"), "R,3,12");
     assert_eq!(on_open_board("\0B"), "R,3,12");
     let high = run_bytes(b"D,0\nB\xff\n\xc3\xa9\nA,1,\x80,0\nB\x0b\x0c\n");
-    assert_eq!(high, b"D,0\nR,2,12\nR,3,12\nR,4,14\nR,5,12\nT,0,0,0,0\n");
+    assert_eq!(high, b"D,0\nR,2,12\nR,3,12\nR,4,14\nR,5,12\nT,0,0,0,0,0\n");
 }
 
 #[test]
@@ -41,7 +41,7 @@ fn stray_bytes_count_towards_the_forty() {
     input.extend([0xff; 40]);
     input.push(b'\n');
     input.extend([0xff; 41]);
-    assert_eq!(run_bytes(&input), b"D,0\nR,2,12\nR,3,11\nT,0,0,0,0\n");
+    assert_eq!(run_bytes(&input), b"D,0\nR,2,12\nR,3,11\nT,0,0,0,0,0\n");
 }
 
 #[test]
@@ -49,9 +49,9 @@ fn ends_of_input() {
     assert_eq!(printed(""), "");
     assert_eq!(printed("\n"), "R,1,12\n");
     assert_eq!(printed("\n\n"), "R,1,12\nR,2,12\n");
-    assert_eq!(printed("D,0"), "D,0\nT,0,0,0,0\n");
-    assert_eq!(printed("D,0\n"), "D,0\nT,0,0,0,0\n");
-    assert_eq!(printed("D,0\n\n"), "D,0\nR,2,12\nT,0,0,0,0\n");
+    assert_eq!(printed("D,0"), "D,0\nT,0,0,0,0,0\n");
+    assert_eq!(printed("D,0\n"), "D,0\nT,0,0,0,0,0\n");
+    assert_eq!(printed("D,0\n\n"), "D,0\nR,2,12\nT,0,0,0,0,0\n");
 }
 
 #[test]
@@ -74,7 +74,7 @@ fn refusals_count_every_line() {
 #[test]
 fn row_11_comes_first() {
     for start in [
-        "", "x", "A", "A,1", "A,1,1,0", "B", "B,", "D,1", ",", "D,9", "Q", "Q,",
+        "", "x", "A", "A,1", "A,1,1,0", "B", "B,", "D,1", ",", "D,9", "Q", "Q,", "W", "W,", "W,5",
     ] {
         let long = format!("{start}{}", " ".repeat(41 - start.len()));
         assert_eq!(on_open_board(&long), "R,3,11");
@@ -119,9 +119,19 @@ fn row_12_first_field_is_one_capital_letter() {
         "Q\r",
         "q,1",
         "QB",
+        "w",
+        " W",
+        "WW",
+        "W ",
+        "W\r",
+        "w,5",
+        " W,5",
+        "W ,5",
+        "WB",
         "0",
         "\"A\",6,1,0",
         "A;6;1;0",
+        "W;5",
     ];
     for line in lines {
         assert_eq!(on_open_board(line), "R,3,12", "{line:?}");
@@ -155,6 +165,12 @@ fn row_13_comes_before_row_14() {
         "Q,x",
         "Q,,",
         "Q,1,1,1",
+        "W",
+        "W,5,",
+        "W,,",
+        "W,5,1",
+        "W,x,x",
+        "W,5,9,0",
     ];
     for line in lines {
         assert_eq!(on_open_board(line), "R,3,13", "{line:?}");
@@ -189,6 +205,7 @@ fn row_14_fields_are_numbers() {
             format!("A,6,{field},0"),
             format!("A,6,1,{field}"),
             format!("D,{field}"),
+            format!("W,{field}"),
         ];
         for line in lines {
             assert_eq!(on_open_board(&line), "R,3,14", "{line:?}");
@@ -200,6 +217,9 @@ fn row_14_fields_are_numbers() {
 #[test]
 fn row_14_blank_only_as_grade() {
     assert_eq!(on_none("D,"), "R,1,14");
+    assert_eq!(on_none("W,"), "R,1,14");
+    assert_eq!(on_open_board("W,"), "R,3,14");
+    assert_eq!(on_open_board("W, "), "R,3,14");
     assert_eq!(on_open_board("A,,1,0"), "R,3,14");
     assert_eq!(on_open_board("A,6,,0"), "R,3,14");
     assert_eq!(on_open_board("A,,,"), "R,3,14");
@@ -211,10 +231,10 @@ fn row_14_blank_only_as_grade() {
 fn a_blank_grade_is_the_worst_of_the_depth() {
     // One rack without a grade is given up (at depth 0 baked), one is baked.
     let wanted = [
-        "D,0\nA,1,1\nA,2,1\nA,3,2\nB,1,1,0,1,1\nG,1,2,0\nB,2,3,0,0,0\nT,0,3,2,1\n",
-        "D,1\nA,1,1\nA,2,1\nA,3,2\nB,1,2,0,1,1\nG,1,1,1\nB,2,3,1,0,0\nT,0,1,1,0\nT,1,2,1,1\n",
-        "D,2\nA,1,1\nA,2,1\nA,3,2\nB,1,2,0,1,1\nG,1,1,3\nB,2,3,3,0,0\nT,0,1,1,0\nT,1,0,0,0\nT,2,0,0,0\nT,3,2,1,1\n",
-        "D,3\nA,1,1\nA,2,1\nA,3,2\nB,1,2,0,1,1\nG,1,1,7\nB,2,3,7,0,0\nT,0,1,1,0\nT,1,0,0,0\nT,2,0,0,0\nT,3,0,0,0\nT,4,0,0,0\nT,5,0,0,0\nT,6,0,0,0\nT,7,2,1,1\n",
+        "D,0\nA,1,1\nA,2,1\nA,3,2\nB,1,1,0,1,1\nG,1,2,0\nB,2,3,0,0,0\nT,0,3,2,1,0\n",
+        "D,1\nA,1,1\nA,2,1\nA,3,2\nB,1,2,0,1,1\nG,1,1,1\nB,2,3,1,0,0\nT,0,1,1,0,0\nT,1,2,1,1,0\n",
+        "D,2\nA,1,1\nA,2,1\nA,3,2\nB,1,2,0,1,1\nG,1,1,3\nB,2,3,3,0,0\nT,0,1,1,0,0\nT,1,0,0,0,0\nT,2,0,0,0,0\nT,3,2,1,1,0\n",
+        "D,3\nA,1,1\nA,2,1\nA,3,2\nB,1,2,0,1,1\nG,1,1,7\nB,2,3,7,0,0\nT,0,1,1,0,0\nT,1,0,0,0,0\nT,2,0,0,0,0\nT,3,0,0,0,0\nT,4,0,0,0,0\nT,5,0,0,0,0\nT,6,0,0,0,0\nT,7,2,1,1,0\n",
     ];
     for (depth, wanted) in wanted.iter().enumerate() {
         let seen = printed(&format!("D,{depth}\nA,1,1,\nA,2,1,0\nA,3,2,\nB\nB\n"));
@@ -254,6 +274,11 @@ fn fields_come_before_row_15_and_before_the_call() {
     assert_eq!(on_none("A,0,99,9"), "R,1,15");
     assert_eq!(on_none("B"), "R,1,15");
     assert_eq!(on_none("Q"), "R,1,15");
+    assert_eq!(on_none("W,0"), "R,1,15");
+    assert_eq!(on_none("W,5"), "R,1,15");
+    assert_eq!(on_none("W,x"), "R,1,14");
+    assert_eq!(on_open_board("W,0"), "R,3,17");
+    assert_eq!(on_open_board("W,5"), "R,3,17");
 }
 
 #[test]
@@ -271,8 +296,8 @@ fn a_question_is_one_letter_alone() {
 
 #[test]
 fn after_a_refused_opening_no_board_is_open() {
-    let seen = printed("D,4\nB\nA,1,1,0\nD,4294967295\nQ\n");
-    assert_eq!(seen, "R,1,1\nR,2,15\nR,3,15\nR,4,1\nR,5,15\n");
+    let seen = printed("D,4\nB\nA,1,1,0\nD,4294967295\nQ\nW,1\n");
+    assert_eq!(seen, "R,1,1\nR,2,15\nR,3,15\nR,4,1\nR,5,15\nR,6,15\n");
     assert_eq!(answers("D,4\nD,2\nB\n"), ["R,1,1", "D,2", "B,1,0,0,0,0"]);
 }
 
@@ -288,7 +313,7 @@ fn tickets_in_lines() {
 #[test]
 fn racks_left_at_the_end_are_only_admitted() {
     let seen = printed("D,0\nA,1,1,0\nA,2,1,0\nB\nA,3,5,0\nA,4,5,0\n");
-    let wanted = "D,0\nA,1,1\nA,2,1\nB,1,1,0,1,1\nG,1,2,0\nA,3,6\nA,4,6\nT,0,4,1,1\n";
+    let wanted = "D,0\nA,1,1\nA,2,1\nB,1,1,0,1,1\nG,1,2,0\nA,3,6\nA,4,6\nT,0,4,1,1,0\n";
     assert_eq!(seen, wanted);
 }
 

@@ -406,7 +406,7 @@ Q
         "Q,4",
     ];
     assert_eq!(answers(input), wanted);
-    assert!(printed(input).ends_with("Q,4\nT,0,4,2,0\nT,1,2,0,1\n"));
+    assert!(printed(input).ends_with("Q,4\nT,0,4,2,0,0\nT,1,2,0,1,0\n"));
 }
 
 /// A day of eight racks a slot with wait 32 for four slots, and then so many more.

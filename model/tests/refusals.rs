@@ -56,9 +56,10 @@ fn numbers_are_the_papers() {
         Refusal::Field,
         Refusal::NotNow,
         Refusal::OffSheet,
+        Refusal::NotWaiting,
     ];
     let numbers: Vec<u32> = all.iter().map(|refusal| refusal.number()).collect();
-    assert_eq!(numbers, (1..=16).collect::<Vec<u32>>());
+    assert_eq!(numbers, (1..=17).collect::<Vec<u32>>());
 }
 
 #[test]
@@ -186,7 +187,7 @@ fn a_full_board_has_no_refusal_of_its_own() {
 #[test]
 fn tally_kind_or_grade_out_of_range() {
     let mut tally = Tally::default();
-    for (kind, grade) in [(3, 0), (0, 8), (3, 8), (u32::MAX, 0), (0, u32::MAX)] {
+    for (kind, grade) in [(4, 0), (0, 8), (3, 8), (4, 8), (u32::MAX, 0), (0, u32::MAX)] {
         assert_eq!(tally.record(kind, grade), Err(Refusal::NoSuchCount));
     }
     assert_eq!(tally, Tally::default());
@@ -194,7 +195,7 @@ fn tally_kind_or_grade_out_of_range() {
 
 #[test]
 fn tally_count_full() {
-    for kind in 0..3 {
+    for kind in 0..4 {
         for grade in 0..8 {
             let mut tally = Tally::default();
             let place = (kind as usize, grade as usize);

@@ -5,7 +5,8 @@
 
 mod common;
 
-use common::{Pick, Trial};
+use common::trials::{Stretch, Trial};
+use common::Pick;
 use model::board::Job;
 use model::book::Book;
 use model::draw::Draw;
@@ -34,45 +35,62 @@ fn holds_level(book: &Book, ours: &Plan, theirs: &Plan, j: usize) -> bool {
     true
 }
 
-/// In how many trials a rival of some level has a larger count than this pick,
-/// and in how many the rival baked other racks at all.
-fn losses(pick: Pick, trials: usize) -> (usize, usize) {
-    let mut draw = Draw::new(51);
-    let (mut lost, mut different) = (0, 0);
-    for _ in 0..trials {
-        let trial = Trial::drawn(&mut draw, 40);
-        let book = trial.book();
-        let ours = trial.plan(pick);
-        for j in 0..trial.depth as usize {
-            let rival = |jobs: &[Job], slot: u32, depth: u32| {
+/// In how many stretches a rival of some level has a larger count than a pick, in how
+/// many the rival baked other racks at all, and in how many of these it knew racks
+/// with which the book began.
+#[derive(Debug, Default)]
+struct Losses {
+    lost: usize,
+    different: usize,
+    with_first_arrivals: usize,
+}
+
+impl Losses {
+    /// Tries rivals of every level on so many lists of calls, and on as many books that
+    /// begin with any racks.
+    fn of(pick: Pick, trials: usize) -> Losses {
+        let mut draw = Draw::new(51);
+        let mut losses = Losses::default();
+        for _ in 0..trials {
+            let mut stretches = Trial::drawn(&mut draw, 40).stretches();
+            stretches.push(Stretch::drawn(&mut draw, 12, 20));
+            for stretch in &stretches {
+                losses.try_stretch(&mut draw, stretch, pick);
+            }
+        }
+        losses
+    }
+
+    /// The stretch begins with the same racks for the pick and for every rival.
+    fn try_stretch(&mut self, draw: &mut Draw, stretch: &Stretch, pick: Pick) {
+        let book = &stretch.book;
+        let ours = stretch.plan(pick);
+        for j in 0..book.depth as usize {
+            let theirs = stretch.plan(|jobs: &[Job], slot: u32, depth: u32| {
                 let set = tight_after(jobs, slot, depth, j);
-                let none = set.is_empty();
-                if none {
-                    None
-                } else {
-                    Some(draw.pick(&set))
-                }
-            };
-            let theirs = trial.plan(rival);
-            assert!(is_unbeaten(&book, &theirs), "a rival has the total");
-            lost += usize::from(!holds_level(&book, &ours, &theirs, j));
-            different += usize::from(ours != theirs);
+                (!set.is_empty()).then(|| draw.pick(&set))
+            });
+            assert!(is_unbeaten(book, &theirs), "a rival has the total");
+            self.lost += usize::from(!holds_level(book, &ours, &theirs, j));
+            self.different += usize::from(ours != theirs);
+            let knew = ours != theirs && !book.first_arrivals.is_empty();
+            self.with_first_arrivals += usize::from(knew);
         }
     }
-    (lost, different)
 }
 
 #[test]
 fn no_rival_has_a_larger_count() {
-    let (lost, different) = losses(job_to_bake, 10_000);
-    assert_eq!(lost, 0);
-    assert!(different > 2_000, "{different}");
+    let losses = Losses::of(job_to_bake, 10_000);
+    assert_eq!(losses.lost, 0);
+    assert!(losses.different > 2_000, "{losses:?}");
+    assert!(losses.with_first_arrivals > 2_000, "{losses:?}");
 }
 
 #[test]
 fn least_last_slot_loses_to_rivals() {
     let pick: Pick = |jobs, _, _| first_due(jobs.to_vec());
-    assert!(losses(pick, 1_000).0 > 0);
+    assert!(Losses::of(pick, 1_000).lost > 0);
 }
 
 /// 000's own form: each step looks only at the set that the last one left.

@@ -1,5 +1,5 @@
 //! The paper's sample input and its output, byte for byte; the B lines have the
-//! shortfall (02, Five).
+//! shortfall (02, Five), the T lines the racks withdrawn (02, Seven).
 
 use model::program::run_bytes;
 
@@ -13,8 +13,8 @@ B,1,3,0,1,1
 G,1,1,1
 B,2,2,1,0,0
 B,3,0,0,0,0
-T,0,1,1,0
-T,1,2,1,1
+T,0,1,1,0,0
+T,1,2,1,1,0
 ";
 
 #[test]

@@ -156,6 +156,7 @@ fn a_day_with_no_closed_slot_prints_nothing() {
         "D,0\nA,1,1,0\nA,2,1,0\n",
         "D,0\nB,\nb\nB \n",
         "Q\nD,0\nQ\nA,1,1,0\nQ\nQ,\n",
+        "W,1\nD,0\nW,1\nA,1,1,0\nW,1\nW\n",
     ];
     for input in inputs {
         assert_eq!(sheet(input), "", "{input:?}");

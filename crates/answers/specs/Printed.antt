@@ -5,11 +5,11 @@ use Prim.Native.Nat.{ℕ, _+_, _*_}
 use lib.Dec.{eqb, leb}
 use Rattle.board.specs.Limits.{places-held}
 use Rattle.board.specs.Tally.{tally-grades}
-use Rattle.lines.specs.Session.{Named, Closing, Answer, a-refusal, an-opening, an-admitting, a-closing, a-promise}
+use Rattle.lines.specs.Session.{Named, Closing, Answer, a-refusal, an-opening, an-admitting, a-closing, a-promise, a-withdrawal}
 use Rattle.printing.specs.Lines.{room}
 use Rattle.answers.specs.declared.Closing.{Closing as ClosingHeld}
 use Rattle.answers.specs.declared.Answer.{Answer as AnswerHeld}
-use Rattle.answers.specs.declared.Answer.the-variants.{Refused, Opened, Admitted, Promised, Closed}
+use Rattle.answers.specs.declared.Answer.the-variants.{Refused, Opened, Admitted, Promised, Withdrawn, Closed}
 
 -- the jobs with these tickets and grades
 unfoldable pub jobs-of : (tickets grades : List ℕ) → List Named
@@ -27,6 +27,7 @@ answer-of (Refused n) T G = a-refusal n
 answer-of (Opened d) T G = an-opening d
 answer-of (Admitted t k) T G = an-admitting t (k .0)
 answer-of (Promised w) T G = a-promise (w .0)
+answer-of (Withdrawn t) T G = a-withdrawal t
 answer-of (Closed c) T G = a-closing (closing-of c T G)
 
 -- `ANSWER_ROOM`: bytes that are enough for any answer, which are those of a B line, and of a G line for each job that a board holds

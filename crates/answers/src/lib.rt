@@ -24,12 +24,13 @@ pub struct Closing {
 }
 
 // What a line is answered: the number of a refusal; the depth opened; the ticket admitted and its last slot; the least laxity that can be promised, 0 for none;
-// the slot closed.
+// the ticket withdrawn; the slot closed.
 pub enum Answer {
     Refused(u8),
     Opened(u32),
     Admitted(u32, Slot),
     Promised(Laxity),
+    Withdrawn(u32),
     Closed(Closing),
 }
 
@@ -131,6 +132,7 @@ fn print_fitting(
         Answer::Opened(depth) => print_at(out, at, b'D', &[depth as u64]),
         Answer::Admitted(ticket, last) => print_at(out, at, b'A', &[ticket as u64, last.0 as u64]),
         Answer::Promised(laxity) => print_at(out, at, b'Q', &[laxity.0 as u64]),
+        Answer::Withdrawn(ticket) => print_at(out, at, b'W', &[ticket as u64]),
         Answer::Closed(closing) => print_closing(closing, tickets, grades, out, at),
     }
 }
@@ -177,7 +179,13 @@ fn print_grades(t: Tally, grades: usize, out: &mut [u8], at: usize) -> usize
         let admitted = count_of(t, Tally::ADMITTED, g);
         let baked = count_of(t, Tally::BAKED, g);
         let given_up = count_of(t, Tally::GIVEN_UP, g);
-        end = print_at(out, end, b'T', &[g as u64, admitted, baked, given_up]);
+        let withdrawn = count_of(t, Tally::WITHDRAWN, g);
+        end = print_at(
+            out,
+            end,
+            b'T',
+            &[g as u64, admitted, baked, given_up, withdrawn],
+        );
         g += 1;
     }
     end

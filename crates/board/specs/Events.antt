@@ -1,4 +1,4 @@
--- The tally's events: 'takes in one event at a time: kind 0 admitted, 1 baked, 2 given up, with a grade'.
+-- The tally's events: 'takes in one event at a time: kind 0 admitted, 1 baked, 2 given up, with a grade'. 02, Seven: 'kind 3, withdrawn'.
 use mathlib.Core.Bool.{Bool, cond}
 use mathlib.Core.List.{List, [], _∷_, _++_, map}
 use Prim.Native.Nat.{ℕ}
@@ -10,6 +10,7 @@ use Rattle.board.specs.declared.Tally.{Tally}
 use Rattle.board.specs.Rows.{unless-refused}
 use Rattle.board.specs.Admit.{admitted}
 use Rattle.board.specs.Close.{closed, given-up}
+use Rattle.board.specs.Withdraw.{withdrawn}
 use Rattle.board.specs.Tally.{counted}
 
 unfoldable pub admitted-kind : ℕ
@@ -20,6 +21,9 @@ baked-kind = 1
 
 unfoldable pub given-up-kind : ℕ
 given-up-kind = 2
+
+unfoldable pub withdrawn-kind : ℕ
+withdrawn-kind = 3
 
 pub record Event : Type 0 where
   pub kind : ℕ
@@ -43,6 +47,10 @@ given-up-events A = map (λ (r : Job). event given-up-kind (r .grade)) A
 -- the events of a closing
 unfoldable pub close-events : Board → (lent : ℕ) → List Event
 close-events b lent = let r = closed b lent in unless-refused (r .refusal) (baked-events (r .ticket) (r .grade) ++ given-up-events (given-up b))
+
+-- the event of a withdrawal
+unfoldable pub withdraw-events : Board → (ticket : ℕ) → List Event
+withdraw-events b t = let r = withdrawn b t in unless-refused (r .refusal) (event withdrawn-kind (r .grade) ∷ [])
 
 -- a tally fed events, one after the other
 unfoldable pub fed : Tally → List Event → Tally

@@ -7,5 +7,6 @@ pub mod Admit
 pub mod Close
 pub mod Lent
 pub mod Promise
+pub mod Withdraw
 pub mod Tally
 pub mod Events

@@ -1,8 +1,10 @@
 -- Where each check stands: rows, and the first that fails.
-use mathlib.Core.Bool.{Bool, cond, not, _&&_}
+use mathlib.Core.Bool.{Bool, true, cond, not, _&&_}
 use mathlib.Core.List.{List, [], _∷_}
+use mathlib.Core.Option.{Option, none, some}
 use Prim.Native.Nat.{ℕ, zero, suc, _^_}
 use lib.Dec.{leb, eqb}
+use Rattle.rule.specs.Job.{Job, with-ticket}
 use Rattle.board.specs.Limits.{longest-laxity, most-in-slot, places-held, last-slot}
 
 -- a row of 01's table: its number, and whether it is given
@@ -44,6 +46,19 @@ close-rows slot lent =
 -- 02, Six: 'Numbers 2 and 3 apply.' Row 3, for asking what can be promised.
 unfoldable pub promise-rows : (slot : ℕ) → List Row
 promise-rows slot = book-ended slot ∷ []
+
+-- 02, Seven: '17 [..] when the ticket is not on the board or was admitted in this slot', of the job that has the ticket
+unfoldable pub not-to-withdraw : (slot : ℕ) → Option Job → Bool
+not-to-withdraw slot none = true
+not-to-withdraw slot (some r) = eqb (r .admitted) slot
+
+-- Rows 3 and 17, for withdrawing a ticket. They read a slot and the jobs waiting in it: those on the board, or those of the day book that are in date and
+-- not yet baked there.
+unfoldable pub withdraw-rows : (slot : ℕ) → List Job → (ticket : ℕ) → List Row
+withdraw-rows slot waiting ticket =
+    book-ended slot
+    ∷ 17 if not-to-withdraw slot (with-ticket ticket waiting)
+    ∷ []
 
 -- what a call lists or counts: nothing, where it is refused
 unfoldable pub unless-refused : {A : Type 0} → (refusal : ℕ) → List A → List A

@@ -9,9 +9,9 @@ use Rattle.board.specs.declared.Counted.{Counted}
 use Rattle.board.specs.Limits.{most-in-slot, last-slot, deepest}
 use Rattle.board.specs.Rows.{_if_, first-given}
 
--- 'kind 0 admitted, 1 baked, 2 given up, with a grade'
+-- 'kind 0 admitted, 1 baked, 2 given up, with a grade'; 02, Seven: 'The tally gets kind 3, withdrawn'
 unfoldable pub tally-kinds : ℕ
-tally-kinds = 3
+tally-kinds = 4
 
 -- 'each of eight grades': those of the greatest depth
 unfoldable pub tally-grades : ℕ
@@ -33,7 +33,7 @@ count-at t k g = getD (t .counts) (cell k g) 0
 unfoldable pub zero-tally : Tally
 zero-tally = record { counts = replicate (tally-kinds * tally-grades) 0 }
 
--- rows 9 and 10: 'kind above 2 or grade above 7', 'that count is already 8,000,000'
+-- rows 9 and 10: 'kind above 2 or grade above 7', and by 02, Seven, '9 is for kinds above 3'; 'that count is already 8,000,000'
 unfoldable pub tally-number : Tally → (kind grade : ℕ) → ℕ
 tally-number t k g = first-given (9 if (leb tally-kinds k || leb tally-grades g) ∷ 10 if leb tally-most (count-at t k g) ∷ [])
 

@@ -2,9 +2,10 @@
 ghost use mathlib.Core.Path.{_≡_};
 ghost use Prim.Native.Nat.{_^_, min};
 ghost use Rattle.board.specs.Limits.{longest-laxity, most-in-slot, places-held, last-slot, deepest};
+ghost use Rattle.board.specs.Held.{blank};
 ghost use Rattle.board.specs.Open.{opened};
 ghost use Rattle.board.specs.Tally.{tally-kinds, tally-grades, tally-most};
-ghost use Rattle.board.specs.Events.{admitted-kind, baked-kind, given-up-kind};
+ghost use Rattle.board.specs.Events.{admitted-kind, baked-kind, given-up-kind, withdrawn-kind};
 
 // A number of slots counted from the present one: 01's wait, 000's laxity.
 #[repr(C)]
@@ -21,6 +22,20 @@ pub struct Place {
     pub admitted: Slot,
     pub last: Slot,
     pub grade: u8,
+}
+
+impl Place {
+    // A place without a job.
+    pub fn blank() -> Place
+        ensures { λ r. ⌜ r ≡ blank ⌝ }
+    {
+        Place {
+            ticket: 0,
+            admitted: Slot(0),
+            last: Slot(0),
+            grade: 0,
+        }
+    }
 }
 
 // The jobs that can still be baked stand in the first `count` places, by rising ticket.
@@ -63,13 +78,7 @@ impl Board {
     pub fn open(depth: u32) -> Opened
         ensures { λ r. ⌜ r ≡ opened depth ⌝ }
     {
-        let blank = Place {
-            ticket: 0,
-            admitted: Slot(0),
-            last: Slot(0),
-            grade: 0,
-        };
-        let places = [blank; Board::PLACES];
+        let places = [Place::blank(); Board::PLACES];
         let mut board = Board {
             depth: 0,
             slot: Slot(0),
@@ -119,6 +128,14 @@ pub struct Promised {
     pub laxity: Laxity,
 }
 
+// What withdrawing answers: the grade of the job taken off.
+#[repr(C)]
+pub struct Withdrawn {
+    pub refusal: u8,
+    pub grade: u8,
+    pub board: Board,
+}
+
 // A count for each kind of event and each grade, at kind * Tally::GRADES + grade.
 #[repr(C)]
 pub struct Tally {
@@ -133,7 +150,9 @@ impl Tally {
 
     pub const GIVEN_UP: u32 = 2;
 
-    pub const KINDS: usize = 3;
+    pub const WITHDRAWN: u32 = 3;
+
+    pub const KINDS: usize = 4;
 
     // Grades of the greatest depth.
     pub const GRADES: usize = 1 << Board::DEEPEST;
@@ -161,6 +180,7 @@ fn limits()
     ensures { λ r. do ⌜ (← ⟦Tally::ADMITTED⟧ .entry) ≡ admitted-kind ⌝ }
     ensures { λ r. do ⌜ (← ⟦Tally::BAKED⟧ .entry) ≡ baked-kind ⌝ }
     ensures { λ r. do ⌜ (← ⟦Tally::GIVEN_UP⟧ .entry) ≡ given-up-kind ⌝ }
+    ensures { λ r. do ⌜ (← ⟦Tally::WITHDRAWN⟧ .entry) ≡ withdrawn-kind ⌝ }
     ensures { λ r. do ⌜ (← ⟦Tally::KINDS⟧ .entry) ≡ tally-kinds ⌝ }
     ensures { λ r. do ⌜ (← ⟦Tally::GRADES⟧ .entry) ≡ tally-grades ⌝ }
     ensures { λ r. do ⌜ (← ⟦Tally::MOST⟧ .entry) ≡ tally-most ⌝ }

@@ -5,6 +5,7 @@ ghost use Rattle.board.specs.Open.{opened};
 ghost use Rattle.board.specs.Admit.{admitted};
 ghost use Rattle.board.specs.Lent.{lent-of, ClosedInto};
 ghost use Rattle.board.specs.Promise.{promised};
+ghost use Rattle.board.specs.Withdraw.{withdrawn};
 ghost use Rattle.board.specs.Tally.{zero-tally, counted};
 use board::Admitted;
 use board::Board;
@@ -14,6 +15,7 @@ use board::Laxity;
 use board::Opened;
 use board::Promised;
 use board::Tally;
+use board::Withdrawn;
 
 pub mod entries;
 pub mod lent;
@@ -60,6 +62,13 @@ pub extern "C" fn oven_promise(b: Board) -> Promised
     ensures { λ r. ⌜ r ≡ promised b ⌝ }
 {
     promising::promise(b)
+}
+
+#[no_mangle]
+pub extern "C" fn oven_withdraw(b: Board, ticket: u32) -> Withdrawn
+    ensures { λ r. ⌜ r ≡ withdrawn b ticket ⌝ }
+{
+    withdrawing::withdraw(b, ticket)
 }
 
 #[no_mangle]

@@ -18,9 +18,9 @@ use Rattle.board.specs.Open.{empty-board}
 use Rattle.board.specs.Admit.{admitted}
 use Rattle.board.specs.Close as Close
 use Rattle.board.specs.Promise.{promised}
-use Rattle.claims.specs.Calls.{Call, admit, close, board-after}
-use Rattle.claims.specs.OurPlan.{our-plan}
-use Rattle.claims.specs.Demand3.{book-of}
+use Rattle.board.specs.Withdraw.{withdrawn}
+use Rattle.claims.specs.Calls.{Call, admit, close, withdraw, board-after}
+use Rattle.claims.specs.Stretches.{Stretch, book-of, our-plan, stretches-of}
 use Rattle.lines.specs.Output.{output}
 use Rattle.lines.specs.Sheet.{Figures, page, sheet, sheet-number, page-after}
 
@@ -52,6 +52,7 @@ sound-right b s = Bool·beq (sound b) s
 unfoldable pub answer : Board → Call → List ℕ
 answer b (admit t w g) = let r = admitted b t w g in r .refusal ∷ r .last .0 ∷ []
 answer b (close lent) = let r = Close.closed b lent in r .refusal ∷ r .ticket ∷ r .grade ∷ r .listed ∷ r .shortfall ∷ []
+answer b (withdraw t) = let r = withdrawn b t in r .refusal ∷ r .grade ∷ []
 
 -- a closing's answer, the jobs given up in the order in which they are listed, and a plan from the slot on, a ticket each, that gives up as many as the
 -- shortfall says
@@ -77,16 +78,51 @@ unfoldable pub answers : Board → List Call → List (List ℕ)
 answers b [] = []
 answers b (c ∷ cs) = answer b c ∷ answers (board-after b c) cs
 
--- what our plan bakes in the first k slots, from k on
-unfoldable pub totals : Board → List Call → ℕ → List ℕ → List ℕ
-totals b cs k [] = []
-totals b cs k (n ∷ ns) = total (book-of b cs) (our-plan b cs) k ∷ totals b cs (suc k) ns
+-- a job as its numbers
+unfoldable pub job-numbers : Job → List ℕ
+job-numbers r = r .ticket ∷ r .admitted ∷ r .last ∷ r .grade ∷ []
 
--- a list of calls on an empty board: the answers, and the most that any plan bakes in the first 0, 1, .. slots, up to the slots closed
-unfoldable pub book-right : (depth slot highest : ℕ) → List Call → List (List ℕ) → List ℕ → Bool
-book-right d k h cs told most =
-    let b = empty-board d k h in
-    same-all (answers b cs) told && eqb (suc (slots-closed (book-of b cs))) (length most) && same (totals b cs 0 most) most
+-- a withdrawal: the answer, and on the board that it hands back the jobs, the depth, the slot and the highest ticket
+unfoldable pub withdraw-right : Board → (ticket : ℕ) → List ℕ → List (List ℕ) → Bool
+withdraw-right b t a left =
+    let c = board-after b (withdraw t) in
+    same (answer b (withdraw t)) a
+    && same-all (map job-numbers (held c)) left
+    && same (c .depth ∷ slot-of c ∷ c .highest ∷ []) (b .depth ∷ slot-of b ∷ b .highest ∷ [])
+
+-- what our plan bakes in the first k slots of a stretch, from k on
+unfoldable pub totals : Stretch → ℕ → List ℕ → List ℕ
+totals x k [] = []
+totals x k (n ∷ ns) = total (book-of x) (our-plan x) k ∷ totals x (suc k) ns
+
+-- what is told of a stretch: the slot, the highest ticket and the jobs with which its book begins, and the most that any plan bakes in its first 0, 1, .. slots,
+-- up to the slots closed
+pub record Told : Type 0 where
+  pub slot : ℕ
+  pub highest : ℕ
+  pub first : List (List ℕ)
+  pub most : List ℕ
+
+unfoldable pub stretch : (slot highest : ℕ) → (first : List (List ℕ)) → (most : List ℕ) → Told
+stretch k h first most = record { slot = k; highest = h; first = first; most = most }
+
+unfoldable pub stretch-right : Stretch → Told → Bool
+stretch-right x t =
+    let b = book-of x .beginning in
+    same (b .slot ∷ b .highest ∷ []) (t .slot ∷ t .highest ∷ [])
+    && same-all (map job-numbers (b .jobs)) (t .first)
+    && eqb (suc (slots-closed (book-of x))) (length (t .most))
+    && same (totals x 0 (t .most)) (t .most)
+
+unfoldable pub stretches-right : List Stretch → List Told → Bool
+stretches-right [] [] = true
+stretches-right [] (t ∷ ts) = false
+stretches-right (x ∷ xs) [] = false
+stretches-right (x ∷ xs) (t ∷ ts) = stretch-right x t && stretches-right xs ts
+
+-- a list of calls on an empty board: the answers, and its stretches
+unfoldable pub book-right : (depth slot highest : ℕ) → List Call → List (List ℕ) → List Told → Bool
+book-right d k h cs told ts = let b = empty-board d k h in same-all (answers b cs) told && stretches-right (stretches-of b cs) ts
 
 -- a day's input and output
 unfoldable pub day-right : List ℕ → List ℕ → Bool

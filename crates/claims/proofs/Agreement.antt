@@ -1,4 +1,6 @@
 pub mod Agree
-pub mod Answers
+pub mod Numbers
 pub mod Admitting
 pub mod Closing
+pub mod Beginning
+pub mod Withdrawing

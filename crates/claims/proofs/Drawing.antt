@@ -1,4 +1,4 @@
-pub mod Added
-pub mod NamedAsChosen
-pub mod PlanOfOurRule
-pub mod BookTried
+pub mod Runs
+pub mod Steps
+pub mod Stretching
+pub mod Alone

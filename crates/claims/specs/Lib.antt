@@ -1,6 +1,6 @@
 pub mod Calls
 pub mod DayBook
-pub mod OurPlan
+pub mod Stretches
 pub mod Demand3
 pub mod Balance
 pub mod GivenUpInOrder

@@ -24,20 +24,21 @@ use Rattle.board.specs.Sound.{sound}
 use Rattle.board.specs.Open.{empty-board, opened}
 use Rattle.board.specs.Admit.{admit-number, with-job, admitted-if, admitted}
 use Rattle.board.specs.Promise.{promised}
+use Rattle.board.specs.Withdraw.{withdraw-number, without-ticket, withdrawn-if, withdrawn}
 use Rattle.board.specs.Close.{close-number, given-up-with, bakes, given-up, moved-on-with, closed-with, closed-if, closed}
 use Rattle.board.specs.Tally.{tally-grades}
 use Rattle.board.proofs.Soundness.Facts.{SoundFacts}
 use Rattle.board.proofs.Soundness.Apart.{facts}
 use Rattle.board.proofs.Tallies.CountAt.{grades-counted}
 use Rattle.board.proofs.Calls.Rows.{row-passed}
-use Rattle.board.proofs.Calls.SoundAfter.{close-going, admitted-sound, closed-sound}
+use Rattle.board.proofs.Calls.SoundAfter.{close-going, admitted-sound, closed-sound, withdrawn-sound}
 use Rattle.board.proofs.Calls.GivenUp.{given-up-length}
 use Rattle.board.proofs.Calls.SoundAfterOpening.{opened-board, opened-sound}
 use Rattle.claims.proofs.Tallying.Fates.{baked-held}
 use Rattle.lines.specs.Bytes.{Bytes, lines}
 use Rattle.lines.specs.Fields.{is-digit, value, is-number, readable-as, value-as}
-use Rattle.lines.specs.Reading.{Request, open-board, admit-job, close-slot, ask-promise, Form, forms, form-in, field, form-of, too-long, readable, form-rows, line-rows, line-number, with-values, request-by, request}
-use Rattle.lines.specs.Session.{Session, new-session, is-open, named, Step, step-refused, step-open, step-admit, step-close, step-promise, when-open, step-request, step-if, step, session-after, run-from, run}
+use Rattle.lines.specs.Reading.{Request, open-board, admit-job, close-slot, ask-promise, withdraw-job, Form, forms, form-in, field, form-of, too-long, readable, form-rows, line-rows, line-number, with-values, request-by, request}
+use Rattle.lines.specs.Session.{Session, new-session, is-open, named, Step, step-refused, step-open, step-admit, step-close, step-promise, step-withdraw, when-open, step-request, step-if, step, session-after, run-from, run}
 use Rattle.lines.specs.Sheet.{Figures, figures-of, figures-in, closings-in, most-given-up, sheet-number}
 use Rattle.lines.proofs.InTurn.{Every, found, needs-open, in-turn}
 use Rattle.lines.proofs.NeverMet.MayMeet.{closed-number, opened-shallow}
@@ -49,6 +50,7 @@ ticket-asked (open-board d) = 0
 ticket-asked (admit-job t w g) = t
 ticket-asked close-slot = 0
 ticket-asked ask-promise = 0
+ticket-asked (withdraw-job t) = t
 
 -- a line of this form whose fields can be read names a ticket of 32 bits
 Ticketed : Form → Type 0
@@ -60,10 +62,13 @@ number-short f h =
     let digits = leb 1 (length f) && leb (length f) 10 && every is-digit f in
     omega (arith, leb-true (value f) 4_294_967_295 (and-right digits (leb (value f) 4_294_967_295) h))
 
+number-first : (f : Bytes) (others : Bool) → (is-number f && others) ≡ true → value f < 4_294_967_296
+number-first f others h = number-short f (and-left (is-number f) others h)
+
 each-ticketed : Every Ticketed forms
 unfolding Every forms Ticketed readable readable-as value-as request-by with-values ticket-asked
 each-ticketed =
-    (λ l h. omega arith, (λ l h. number-short (field 1 l) (and-left (is-number (field 1 l)) _ h), (λ l h. omega arith, (λ l h. omega arith, record {}))))
+    (λ l h. omega arith, (λ l h. number-first (field 1 l) _ h, (λ l h. omega arith, (λ l h. omega arith, (λ l h. number-first (field 1 l) _ h, record {})))))
 
 ticket-short : (o : Bool) (l : Bytes) → line-number o l ≡ 0 → ticket-asked (request l) < 4_294_967_296
 unfolding line-number line-rows form-rows form-of request Ticketed
@@ -229,6 +234,19 @@ module _ (b : Board) (h : Short b) where
   unfolding step-promise figures-in every InBounds
   fit-promise = either (promised b .refusal) _ _ (λ e. record { closing = refl; after = h }) (fit-refused (some b) (promised b .refusal) h)
 
+  after-withdraw : (t : ℕ) → Short (withdrawn b t .board)
+  unfolding withdrawn withdrawn-if without-ticket thinned
+  after-withdraw t = record { is-sound = withdrawn-sound b t (h .is-sound); highest = go (withdraw-number b t) }
+    where
+      go : (n : ℕ) → withdrawn-if n b t .board .highest < 4_294_967_296
+      go zero = h .highest
+      go (suc n) = h .highest
+
+  fit-withdraw : (t : ℕ) → Fit (step-withdraw b t)
+  unfolding step-withdraw figures-in every InBounds
+  fit-withdraw t =
+      either (withdrawn b t .refusal) _ _ (λ e. record { closing = refl; after = after-withdraw t }) (fit-refused (some b) (withdrawn b t .refusal) h)
+
 -- a request in its turn, and a line
 requested : (o : Option Board) → InBounds o → (q : Request) → needs-open q ≡ is-open o → ticket-asked q < 4_294_967_296 → Fit (step-request o q)
 unfolding step-request when-open InBounds needs-open is-open ticket-asked
@@ -236,10 +254,12 @@ requested none h (open-board d) e k = fit-open none d h
 requested none h (admit-job t w g) e k = never refl e
 requested none h close-slot e k = never refl e
 requested none h ask-promise e k = never refl e
+requested none h (withdraw-job t) e k = never refl e
 requested (some b) h (open-board d) e k = never e refl
 requested (some b) h (admit-job t w g) e k = fit-admit b h t w _ k
 requested (some b) h close-slot e k = fit-close b h
 requested (some b) h ask-promise e k = fit-promise b h
+requested (some b) h (withdraw-job t) e k = fit-withdraw b h t
 
 fit-line : (o : Option Board) → InBounds o → (l : Bytes) → Fit (step o l)
 unfolding step step-if

@@ -12,7 +12,7 @@ use Rattle.board.specs.Rows.{first-given}
 use Rattle.board.proofs.Calls.Rows.{row-passed}
 use Rattle.lines.specs.Bytes.{Bytes}
 use Rattle.lines.specs.Fields.{is-letter}
-use Rattle.lines.specs.Reading.{Request, open-board, admit-job, close-slot, ask-promise, Form, forms, form-in, field, form-of, too-long, out-of-turn, form-rows, line-rows, line-number, with-values, request-by, request}
+use Rattle.lines.specs.Reading.{Request, open-board, admit-job, close-slot, ask-promise, withdraw-job, Form, forms, form-in, field, form-of, too-long, out-of-turn, form-rows, line-rows, line-number, with-values, request-by, request}
 
 -- what holds of every form of a table
 unfoldable pub Every : (Form → Type 0) → List Form → Type 0
@@ -46,6 +46,7 @@ needs-open (open-board d) = false
 needs-open (admit-job t w g) = true
 needs-open close-slot = true
 needs-open ask-promise = true
+needs-open (withdraw-job t) = true
 
 -- in its turn a line of this form asks for what then can be done
 InTurn : Form → Type 0
@@ -54,7 +55,7 @@ InTurn r = (l : Bytes) (o : Bool) → out-of-turn (r .for-open) o ≡ false → 
 each-in-turn : Every InTurn forms
 unfolding Every forms InTurn out-of-turn needs-open request-by with-values
 each-in-turn =
-    (λ l o h. sym h, (λ l o h. sym (not-false o h), (λ l o h. sym (not-false o h), (λ l o h. sym (not-false o h), record {}))))
+    (λ l o h. sym h, (λ l o h. sym (not-false o h), (λ l o h. sym (not-false o h), (λ l o h. sym (not-false o h), (λ l o h. sym (not-false o h), record {})))))
 
 pub in-turn : (o : Bool) (l : Bytes) → line-number o l ≡ 0 → needs-open (request l) ≡ o
 unfolding line-number line-rows form-rows form-of request InTurn

@@ -34,6 +34,9 @@ letter-R = 82
 unfoldable pub letter-T : ℕ
 letter-T = 84
 
+unfoldable pub letter-W : ℕ
+letter-W = 87
+
 -- a byte in front of the first piece
 unfoldable pub onto-first : ℕ → List Bytes → List Bytes
 onto-first b [] = (b ∷ []) ∷ []

@@ -8,7 +8,7 @@ use Rattle.lists.specs.Select.{every}
 use Rattle.board.specs.declared.Tally.{Tally}
 use Rattle.board.specs.Events.{event-numbers}
 use Rattle.lines.specs.Bytes.{Bytes, lines}
-use Rattle.lines.specs.Session.{Session, new-session, Answer, a-refusal, an-opening, an-admitting, a-closing, a-promise, Step, step, session-after}
+use Rattle.lines.specs.Session.{Session, new-session, Answer, a-refusal, an-opening, an-admitting, a-closing, a-promise, a-withdrawal, Step, step, session-after}
 
 -- the number of a refusal, 0 for any other answer
 unfoldable pub number-of : Answer → ℕ
@@ -17,6 +17,7 @@ number-of (an-opening d) = 0
 number-of (an-admitting t k) = 0
 number-of (a-closing c) = 0
 number-of (a-promise w) = 0
+number-of (a-withdrawal t) = 0
 
 -- the numbers that are met at a step: its answer's, and then the tally's for each event
 unfoldable pub step-numbers : Tally → Step → List ℕ

@@ -7,7 +7,7 @@ use Prim.Native.Nat.{ℕ, suc}
 use lib.Dec.{ltb, eqb}
 use lib.ListN.{length, getD}
 use Rattle.board.specs.Rows.{Row, _if_, first-given}
-use Rattle.lines.specs.Bytes.{Bytes, fields, letter-A, letter-B, letter-D, letter-Q}
+use Rattle.lines.specs.Bytes.{Bytes, fields, letter-A, letter-B, letter-D, letter-Q, letter-W}
 use Rattle.lines.specs.Fields.{Kind, a-number, a-grade, readable-as, ReadAs, value-as, is-letter}
 
 -- what a line asks for that none of rows 11 to 15 refuses; a grade is none where it is blank
@@ -16,6 +16,7 @@ pub data Request : Type 0 where
   admit-job : (ticket laxity : ℕ) (grade : Option ℕ) → Request
   close-slot : Request
   ask-promise : Request
+  withdraw-job : (ticket : ℕ) → Request
 
 -- a request that is still to be given the value of each of these fields
 abbrev pub Asks : List Kind → Type 0
@@ -30,13 +31,15 @@ pub record Form : Type 0 where
   pub for-open : Bool
   pub asks : Asks after
 
--- '`D,depth` opens, `A,ticket,wait,grade` admits, `B` closes the slot'. 'Fields stand in fixed order.' 02, Six: 'The line `Q`'.
+-- '`D,depth` opens, `A,ticket,wait,grade` admits, `B` closes the slot'. 'Fields stand in fixed order.' 02, Six: 'The line `Q`';
+-- Seven: '`W,ticket` takes it off'.
 unfoldable pub forms : List Form
 forms =
     record { letter = letter-D; after = a-number ∷ []; for-open = false; asks = open-board }
     ∷ record { letter = letter-A; after = a-number ∷ a-number ∷ a-grade ∷ []; for-open = true; asks = admit-job }
     ∷ record { letter = letter-B; after = []; for-open = true; asks = close-slot }
     ∷ record { letter = letter-Q; after = []; for-open = true; asks = ask-promise }
+    ∷ record { letter = letter-W; after = a-number ∷ []; for-open = true; asks = withdraw-job }
     ∷ []
 
 -- the form with this first field: none where it is no letter of a form

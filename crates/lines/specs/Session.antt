@@ -12,12 +12,13 @@ use Rattle.board.specs.Open.{opened}
 use Rattle.board.specs.Admit.{admitted}
 use Rattle.board.specs.Close.{closed, given-up}
 use Rattle.board.specs.Promise.{promised}
+use Rattle.board.specs.Withdraw.{withdrawn}
 use Rattle.board.specs.Tally.{zero-tally}
-use Rattle.board.specs.Events.{Event, admit-events, close-events, fed}
+use Rattle.board.specs.Events.{Event, admit-events, close-events, withdraw-events, fed}
 use Rattle.board.specs.Held.{slot-of}
 use Rattle.lines.specs.Bytes.{Bytes, lines}
 use Rattle.lines.specs.Fields.{grade-meant}
-use Rattle.lines.specs.Reading.{line-number, Request, open-board, admit-job, close-slot, ask-promise, request}
+use Rattle.lines.specs.Reading.{line-number, Request, open-board, admit-job, close-slot, ask-promise, withdraw-job, request}
 
 -- the board, if one is open, and the tally
 pub record Session : Type 0 where
@@ -53,6 +54,7 @@ pub data Answer : Type 0 where
   an-admitting : (ticket last : ℕ) → Answer
   a-closing : Closing → Answer
   a-promise : (laxity : ℕ) → Answer
+  a-withdrawal : (ticket : ℕ) → Answer
 
 -- what a line does: its answer, the board after it, and the tally's events
 pub record Step : Type 0 where
@@ -98,6 +100,14 @@ step-promise b =
     let r = promised b in
     cond (eqb (r .refusal) 0) (record { answer = a-promise (r .laxity .0); board = some b; events = [] }) (step-refused (some b) (r .refusal))
 
+-- 02, Seven: '`W,ticket` takes it off'
+unfoldable pub step-withdraw : Board → (ticket : ℕ) → Step
+step-withdraw b t =
+    let r = withdrawn b t in
+    cond (eqb (r .refusal) 0)
+    (record { answer = a-withdrawal t; board = some (r .board); events = withdraw-events b t })
+    (step-refused (some b) (r .refusal))
+
 -- A step on the board that is open. While none is, row 15 refuses every line that is for an open one (proofs/InTurn): the first case is never used.
 unfoldable pub when-open : Option Board → (Board → Step) → Step
 when-open none f = step-refused none 0
@@ -109,6 +119,7 @@ step-request o (open-board d) = step-open o d
 step-request o (admit-job t w g) = when-open o (λ b. step-admit b t w (grade-meant (b .depth) g))
 step-request o close-slot = when-open o step-close
 step-request o ask-promise = when-open o step-promise
+step-request o (withdraw-job t) = when-open o (λ b. step-withdraw b t)
 
 -- 'the line rows, 11 to 15, come before those of the call that the line makes'
 unfoldable pub step-if : ℕ → Option Board → Bytes → Step

@@ -9,7 +9,7 @@ use Rattle.board.specs.Limits.{last-slot, deepest}
 use Rattle.board.specs.Rows.{_if_, first-given}
 use Rattle.lines.specs.Bytes.{Bytes, line-end, letter-G}
 use Rattle.lines.specs.Printing.{decimal}
-use Rattle.lines.specs.Session.{Closing, Answer, a-refusal, an-opening, an-admitting, a-closing, a-promise, run}
+use Rattle.lines.specs.Session.{Closing, Answer, a-refusal, an-opening, an-admitting, a-closing, a-promise, a-withdrawal, run}
 
 unfoldable pub space : ℕ
 space = 32
@@ -110,6 +110,7 @@ figures-in (an-opening d) = []
 figures-in (an-admitting t k) = []
 figures-in (a-closing c) = figures-of c ∷ []
 figures-in (a-promise w) = []
+figures-in (a-withdrawal t) = []
 
 unfoldable pub closings-in : List Answer → List Figures
 closings-in answers = flatMap figures-in answers

@@ -1,6 +1,7 @@
 pub mod Tests
 pub mod Members
 pub mod Every
+pub mod Find
 pub mod Counting
 pub mod Least
 pub mod LeastPassing

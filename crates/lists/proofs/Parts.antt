@@ -2,7 +2,7 @@
 use mathlib.Core.Path.{_≡_, refl, sym, ap, _∙_}
 use mathlib.Core.Bool.{Bool, true, false, cond}
 use mathlib.Core.List.{List, [], _∷_, _++_, map, List·Memᴰ, List·Memᴰ·head, List·Memᴰ·tail, List·Memᴰ·not-nil}
-use Prim.Native.Nat.{ℕ, zero, suc, _-_, _≤_, _<_}
+use Prim.Native.Nat.{ℕ, zero, suc, _-_, _≤_, _<_, min}
 use native.Mathlib.Omega.{arith}
 use lib.Dec.{leb, ltb}
 use lib.ListN.{length, getD, take, drop, replicate}
@@ -99,3 +99,11 @@ pub map-at : {A B : Type 0} (f : A → B) (l : List A) (i : ℕ) (d : A) (e : B)
 map-at f [] i d e h = absurd (omega arith)
 map-at f (a ∷ l) zero d e h = refl
 map-at f (a ∷ l) (suc i) d e h = map-at f l i d e (omega arith)
+
+-- the i-th and the later ones of the first n elements, each read by f
+pub drop-map-take : {A B : Type 0} (f : A → B) (l : List A) (n i : ℕ) (none : A) → i < min n (length l)
+    → drop i (map f (take n l)) ≡ f (getD l i none) ∷ drop (suc i) (map f (take n l))
+drop-map-take f [] n i none h = absurd (omega arith)
+drop-map-take f (x ∷ l) zero i none h = absurd (omega arith)
+drop-map-take f (x ∷ l) (suc n) zero none h = refl
+drop-map-take f (x ∷ l) (suc n) (suc i) none h = drop-map-take f l n i none (omega arith)

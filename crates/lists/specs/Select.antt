@@ -1,6 +1,7 @@
--- Lists and tests: the elements that pass, how many pass, whether all or any do.
+-- Lists and tests: the elements that pass, how many pass, whether all or any do, the first that does.
 use mathlib.Core.Bool.{Bool, true, false, cond, _&&_, _||_}
 use mathlib.Core.List.{List, [], _∷_}
+use mathlib.Core.Option.{Option, none, some}
 use Prim.Native.Nat.{ℕ, _+_}
 
 -- 1 where a test passes, else 0
@@ -27,3 +28,8 @@ every p (a ∷ l) = p a && every p l
 unfoldable pub has : {A : Type 0} → (A → Bool) → List A → Bool
 has p [] = false
 has p (a ∷ l) = p a || has p l
+
+-- the first element that passes
+unfoldable pub find : {A : Type 0} → (A → Bool) → List A → Option A
+find p [] = none
+find p (a ∷ l) = cond (p a) (some a) (find p l)

@@ -12,7 +12,7 @@ use Rattle.lists.proofs.Tests.{cond-true}
 use Rattle.lines.specs.Sheet.{Figures, figures-of, page, figures-in, sheet-number, is-full, with-closing, page-after}
 use Rattle.lines.specs.Printers.{page-along, filled-by, pages-along}
 use Rattle.answers.specs.declared.Answer.{Answer as AnswerHeld}
-use Rattle.answers.specs.declared.Answer.the-variants.{Refused, Opened, Admitted, Promised, Closed}
+use Rattle.answers.specs.declared.Answer.the-variants.{Refused, Opened, Admitted, Promised, Withdrawn, Closed}
 use Rattle.answers.specs.Printed.{answer-of}
 use Rattle.answers.proofs.Answer.{the-type}
 use Rattle.answers.proofs.Jobs.{jobs-length}
@@ -53,7 +53,7 @@ module _ (p : List Figures) (f : Figures) where
 
 -- an answer that is no closing, a variant before `Closed`, brings nothing to the sheet, and the page is as it was
 abbrev no-closings : List ℕ
-no-closings = 0 ∷ 1 ∷ 2 ∷ 3 ∷ []
+no-closings = 0 ∷ 1 ∷ 2 ∷ 3 ∷ 4 ∷ []
 
 pub no-closing : (a : AnswerHeld) (T G : List ℕ) → OneOf no-closings (tagOf the-type a) → figures-in (answer-of a T G) ≡ []
 unfolding figures-in answer-of
@@ -61,7 +61,8 @@ no-closing (Refused n) T G h = refl
 no-closing (Opened d) T G h = refl
 no-closing (Admitted t k) T G h = refl
 no-closing (Promised w) T G h = refl
-no-closing (Closed c) T G h = absurd (miss no-closings 4 tt h)
+no-closing (Withdrawn t) T G h = refl
+no-closing (Closed c) T G h = absurd (miss no-closings 5 tt h)
 
 pub page-as-it-was : (a : AnswerHeld) (p : Page) (l : ℕ) → OneOf no-closings (tagOf the-type a) → page-held p a l ≡ p
 unfolding page-held
@@ -69,7 +70,8 @@ page-as-it-was (Refused n) p l h = refl
 page-as-it-was (Opened d) p l h = refl
 page-as-it-was (Admitted t k) p l h = refl
 page-as-it-was (Promised w) p l h = refl
-page-as-it-was (Closed c) p l h = absurd (miss no-closings 4 tt h)
+page-as-it-was (Withdrawn t) p l h = refl
+page-as-it-was (Closed c) p l h = absurd (miss no-closings 5 tt h)
 
 -- an answer is a closing with these figures
 pub record IsClosing (a : AnswerHeld) (T G : List ℕ) (f : FiguresHeld) : Type 0 where

@@ -8,7 +8,7 @@ use Rattle.lines.specs.Bytes.{Bytes}
 use Rattle.lines.specs.Printers.{answers-printed, printer-after}
 use Rattle.printing.specs.Puts.{PutIf}
 use Rattle.answers.specs.declared.Answer.{Answer as AnswerHeld}
-use Rattle.answers.specs.declared.Answer.the-variants.{Refused, Opened, Admitted, Promised, Closed}
+use Rattle.answers.specs.declared.Answer.the-variants.{Refused, Opened, Admitted, Promised, Withdrawn, Closed}
 use Rattle.answers.specs.Printed.{answer-of, answer-room}
 use Rattle.page.specs.declared.Page.{Page}
 use Rattle.page.specs.Pages.{handed-over}
@@ -28,6 +28,7 @@ page-held p (Refused n) l = p
 page-held p (Opened d) l = p
 page-held p (Admitted t k) l = p
 page-held p (Promised w) l = p
+page-held p (Withdrawn t) l = p
 page-held p (Closed c) l = handed-over p (record { slot = c .slot; ticket = c .ticket; grade = c .grade; listed = l }) .page
 
 -- what each program's printer holds after it

@@ -5,7 +5,7 @@ ghost use Prim.Native.Nat.{_+_, _≤_, _<_, _^_};
 ghost use lib.ListN.{length};
 ghost use Rattle.board.specs.Limits.{places-held};
 ghost use Rattle.lines.specs.Fields.{grade-meant};
-ghost use Rattle.lines.specs.Session.{step-refused, step-open, step-admit, step-close, step-promise, step};
+ghost use Rattle.lines.specs.Session.{step-refused, step-open, step-admit, step-close, step-promise, step-withdraw, step};
 ghost use Rattle.fields.specs.Grades.{grade-of};
 ghost use Rattle.answers.specs.Printed.{answer-room};
 ghost use Rattle.program.specs.Inner.Days.{session-of, GoodDay, Did, DidAlone, Answered};
@@ -164,6 +164,32 @@ fn promise_line(day: Day) -> Stepped
     }
 }
 
+// A line that withdraws.
+fn withdraw_line(day: Day, ticket: u32) -> Stepped
+    requires { ⌜ GoodDay day ⌝ }
+    requires { ⌜ day .opened ≡ true ⌝ }
+    ensures { λ r. ⌜ DidAlone day (step-withdraw (day .board) ticket) r ⌝ }
+{
+    let w = withdrawing::withdraw_by_rows(day.board, ticket);
+    if w.refusal != 0 {
+        return refuse(day, w.refusal);
+    }
+    let board = w.board;
+    let old = day.tally;
+    let tally = tally::count_withdrawn(old, w.grade);
+    let next = Day {
+        opened: true,
+        board,
+        tally,
+    };
+    let answer = Answer::Withdrawn(ticket);
+    Stepped {
+        day: next,
+        answer,
+        listed: 0,
+    }
+}
+
 // What a line does, the line end not among its bytes.
 fn step_line(
     day: Day,
@@ -182,6 +208,7 @@ fn step_line(
         Asked::Admit(ticket, laxity, grade) => admit_line(day, ticket, laxity, grade),
         Asked::Close => close_line(day, tickets, grades, slots),
         Asked::Promise => promise_line(day),
+        Asked::Withdraw(ticket) => withdraw_line(day, ticket),
         Asked::Refused(n) => refuse(day, n),
     }
 }

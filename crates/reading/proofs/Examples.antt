@@ -6,9 +6,9 @@ use mathlib.Core.Option.{none, some}
 use lib.ListN.{replicate}
 use Rattle.lists.specs.Select.{every}
 use Rattle.board.specs.Rows.{_if_, first-given}
-use Rattle.lines.specs.Bytes.{fields, onto-first, comma, letter-A, letter-B, letter-D, letter-Q}
+use Rattle.lines.specs.Bytes.{fields, onto-first, comma, letter-A, letter-B, letter-D, letter-Q, letter-W}
 use Rattle.lines.specs.Fields.{is-letter, is-number, readable-as, value-as, is-blank, is-digit, value, value-after}
-use Rattle.lines.specs.Reading.{open-board, admit-job, close-slot, ask-promise, forms, form-in, field, form-of, longest-line, too-long, fields-wanted, readable, out-of-turn, form-rows, line-rows, line-number, with-values, request-by, request}
+use Rattle.lines.specs.Reading.{open-board, admit-job, close-slot, ask-promise, withdraw-job, forms, form-in, field, form-of, longest-line, too-long, fields-wanted, readable, out-of-turn, form-rows, line-rows, line-number, with-values, request-by, request}
 use Rattle.fields.specs.Results.{result}
 use Rattle.reading.specs.Answers.{line-result}
 
@@ -23,6 +23,14 @@ examples :
     (line-result true (81 ∷ []) ≡ (0, some ask-promise)) ×
     (line-result false (81 ∷ []) ≡ (15, none)) ×
     (line-result true (81 ∷ 44 ∷ []) ≡ (13, none)) ×
+    -- `W,7`, while a board is open and while none is; `W,007`: leading zeros are allowed
+    (line-result true (87 ∷ 44 ∷ 55 ∷ []) ≡ (0, some (withdraw-job 7))) ×
+    (line-result false (87 ∷ 44 ∷ 55 ∷ []) ≡ (15, none)) ×
+    (line-result true (87 ∷ 44 ∷ 48 ∷ 48 ∷ 55 ∷ []) ≡ (0, some (withdraw-job 7))) ×
+    -- `W` has a field too few, `W,7,` one too many; the ticket may not be blank
+    (line-result true (87 ∷ []) ≡ (13, none)) ×
+    (line-result true (87 ∷ 44 ∷ 55 ∷ 44 ∷ []) ≡ (13, none)) ×
+    (line-result true (87 ∷ 44 ∷ []) ≡ (14, none)) ×
     -- `q`: a small letter
     (line-result true (113 ∷ []) ≡ (12, none)) ×
     -- `D`: one field too few
@@ -75,5 +83,5 @@ examples :
     (line-result false (68 ∷ 44 ∷ 45 ∷ 49 ∷ []) ≡ (14, none)) ×
     -- `D, 1`: a space
     (line-result false (68 ∷ 44 ∷ 32 ∷ 49 ∷ []) ≡ (14, none))
-unfolding line-result result line-number line-rows first-given _if_ too-long longest-line form-of form-in forms form-rows fields-wanted readable out-of-turn with-values request-by request field fields onto-first comma letter-A letter-B letter-D letter-Q is-letter is-number readable-as value-as is-blank is-digit value value-after every
-examples = (refl, refl, refl, refl, refl, refl, refl, refl, refl, refl, refl, refl, refl, refl, refl, refl, refl, refl, refl, refl, refl, refl, refl, refl, refl, refl, refl, refl, refl, refl, refl, refl)
+unfolding line-result result line-number line-rows first-given _if_ too-long longest-line form-of form-in forms form-rows fields-wanted readable out-of-turn with-values request-by request field fields onto-first comma letter-A letter-B letter-D letter-Q letter-W is-letter is-number readable-as value-as is-blank is-digit value value-after every
+examples = (refl, refl, refl, refl, refl, refl, refl, refl, refl, refl, refl, refl, refl, refl, refl, refl, refl, refl, refl, refl, refl, refl, refl, refl, refl, refl, refl, refl, refl, refl, refl, refl, refl, refl, refl, refl, refl, refl)

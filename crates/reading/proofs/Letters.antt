@@ -11,7 +11,7 @@ use lib.ListN.{length, getD}
 use borrow.Author.Tests.{ne-eqb}
 use Rattle.lists.proofs.Tests.{test}
 use Rattle.board.specs.Rows.{_if_, first-given}
-use Rattle.lines.specs.Bytes.{Bytes, letter-A, letter-B, letter-D, letter-Q}
+use Rattle.lines.specs.Bytes.{Bytes, letter-A, letter-B, letter-D, letter-Q, letter-W}
 use Rattle.lines.specs.Fields.{is-letter}
 use Rattle.lines.specs.Reading.{Form, forms, form-in, fields-wanted, readable, with-values, request-by}
 use Rattle.lines.proofs.InTurn.{Every, found}
@@ -40,14 +40,14 @@ pub promises : (l : Bytes) → asked-result Promise ≡ after-letter letter-Q l
 unfolding after-letter form-read fields-read unless first-given _if_ result form-in forms is-letter readable with-values request-by asked-result letter-A letter-B letter-D letter-Q
 promises l = refl
 
--- a line that starts with none of D, A and Q closes
-pub closes : (c : ℕ) (l : Bytes) → (c ≡ letter-D → ⊥) → (c ≡ letter-A → ⊥) → (c ≡ letter-Q → ⊥) → asked-result Close ≡ after-letter c l
+-- a line that starts with none of D, A, W and Q closes
+pub closes : (c : ℕ) (l : Bytes) → (c ≡ letter-D → ⊥) → (c ≡ letter-A → ⊥) → (c ≡ letter-W → ⊥) → (c ≡ letter-Q → ⊥) → asked-result Close ≡ after-letter c l
 unfolding after-letter form-read fields-read unless first-given _if_ result form-in forms is-letter readable with-values request-by asked-result
-closes c l d a q = go (test (eqb c letter-B))
+closes c l d a w q = go (test (eqb c letter-B))
   where
     go : (eqb c letter-B ≡ true) ⊎ (eqb c letter-B ≡ false) → asked-result Close ≡ after-letter c l
-    go (inl b) = simp (ne-eqb c letter-D d, ne-eqb c letter-A a, ne-eqb c letter-Q q, b)
-    go (inr b) = simp (ne-eqb c letter-D d, ne-eqb c letter-A a, ne-eqb c letter-Q q, b)
+    go (inl b) = simp (ne-eqb c letter-D d, ne-eqb c letter-A a, ne-eqb c letter-W w, ne-eqb c letter-Q q, b)
+    go (inr b) = simp (ne-eqb c letter-D d, ne-eqb c letter-A a, ne-eqb c letter-W w, ne-eqb c letter-Q q, b)
 
 -- the form from which a letter's answer comes; the letter alone finds it too
 pub record Known (f : Bytes) (c n : ℕ) (o : Bool) : Type 0 where
@@ -58,8 +58,8 @@ pub record Known (f : Bytes) (c n : ℕ) (o : Bool) : Type 0 where
   pub for-open : form .for-open ≡ o
 
 finds-itself : Every (λ r. form-in forms (r .letter ∷ []) ≡ some r) forms
-unfolding Every form-in forms is-letter letter-A letter-B letter-D letter-Q
-finds-itself = (refl, (refl, (refl, (refl, record {}))))
+unfolding Every form-in forms is-letter letter-A letter-B letter-D letter-Q letter-W
+finds-itself = (refl, (refl, (refl, (refl, (refl, record {})))))
 
 pub letter-says : (f : Bytes) (c n : ℕ) (o : Bool) → letter-result (Is c n o) ≡ letter-read f → Known f c n o
 unfolding letter-result letter-read form-result result

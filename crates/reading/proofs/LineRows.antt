@@ -14,7 +14,7 @@ use Rattle.board.proofs.Calls.Rows.{row-skipped}
 use Rattle.lines.specs.Bytes.{Bytes, fields}
 use Rattle.lines.specs.Reading.{Request, Form, form-of, field, longest-line, too-long, readable, out-of-turn, form-rows, line-rows, line-number, with-values, request-by, request}
 use Rattle.reading.specs.declared.Asked.{Asked}
-use Rattle.reading.specs.declared.Asked.the-variants.{Open, Admit, Close, Promise, Refused}
+use Rattle.reading.specs.declared.Asked.the-variants.{Open, Admit, Close, Promise, Withdraw, Refused}
 use Rattle.reading.specs.declared.Letter.the-variants.{Is, Other}
 use Rattle.reading.specs.Answers.{asked-result, line-result}
 use Rattle.fields.specs.Results.{result}
@@ -25,7 +25,7 @@ use Rattle.reading.proofs.Letters.{other-says, Known, letter-says}
 
 -- the answer is a variant before `Refused`
 abbrev asking : List ℕ
-asking = 0 ∷ 1 ∷ 2 ∷ 3 ∷ []
+asking = 0 ∷ 1 ∷ 2 ∷ 3 ∷ 4 ∷ []
 
 abbrev pub AsksFor : Asked → Type 0
 AsksFor a = OneOf asking (tagOf the-type a)
@@ -36,7 +36,8 @@ asks (Open d) h = (_, refl)
 asks (Admit t w g) h = (_, refl)
 asks Close h = (_, refl)
 asks Promise h = (_, refl)
-asks (Refused n) h = absurd (miss asking 4 tt h)
+asks (Withdraw t) h = (_, refl)
+asks (Refused n) h = absurd (miss asking 5 tt h)
 
 -- a line is out of turn where one of the two holds: it is for a board that is open, one is open
 turn-test : (f o : Bool) → out-of-turn f o ≡ not (Bool·beq o f)

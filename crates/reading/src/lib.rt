@@ -1,6 +1,6 @@
 // One line of the program's input, read: 01, 'Lines' and rows 11 to 15.
 ghost use mathlib.Core.Path.{_≡_};
-ghost use Rattle.lines.specs.Bytes.{letter-A, letter-D};
+ghost use Rattle.lines.specs.Bytes.{letter-A, letter-D, letter-W};
 ghost use Rattle.lines.specs.Reading.{longest-line};
 ghost use Rattle.reading.specs.Answers.{asked-result, line-result};
 ghost use Rattle.reading.specs.Inner.Parts.{letter-result, letter-read, after-letter};
@@ -25,6 +25,8 @@ pub enum Asked {
     Close,
     // What can still be promised.
     Promise,
+    // A ticket to take off.
+    Withdraw(u32),
     Refused(u8),
 }
 
@@ -52,6 +54,7 @@ fn letter_field(f: &[u8]) -> Letter
         b'A' => Letter::Is(b, 4, true),
         b'B' => Letter::Is(b, 1, true),
         b'Q' => Letter::Is(b, 1, true),
+        b'W' => Letter::Is(b, 2, true),
         _ => Letter::Other,
     }
 }
@@ -82,6 +85,16 @@ fn read_admit(line: &[u8]) -> Asked
     Asked::Admit(ticket, Laxity(laxity), grade)
 }
 
+// The fields of a line that withdraws: row 14, or the ticket.
+fn read_withdraw(line: &[u8]) -> Asked
+    ensures { λ r. ⌜ asked-result r ≡ after-letter letter-W (now (line .entry)) ⌝ }
+{
+    let Field::Number(ticket) = number_field(nth_field(line, 1)) else {
+        return Asked::Refused(14);
+    };
+    Asked::Withdraw(ticket)
+}
+
 // The fields of a line that starts with this letter: row 14, or what it asks for.
 fn read_fields(line: &[u8], letter: u8) -> Asked
     ensures { λ r. ⌜ asked-result r ≡ after-letter letter (now (line .entry)) ⌝ }
@@ -89,6 +102,7 @@ fn read_fields(line: &[u8], letter: u8) -> Asked
     match letter {
         b'D' => read_open(line),
         b'A' => read_admit(line),
+        b'W' => read_withdraw(line),
         b'Q' => Asked::Promise,
         _ => Asked::Close,
     }

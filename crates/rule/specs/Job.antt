@@ -1,7 +1,10 @@
 -- A job: 01's rack. Its slots are plain numbers of the day book.
 use mathlib.Core.Bool.{Bool}
+use mathlib.Core.List.{List}
+use mathlib.Core.Option.{Option}
 use Prim.Native.Nat.{ℕ, _+_, _-_}
-use lib.Dec.{leb}
+use lib.Dec.{leb, eqb}
+use Rattle.lists.specs.Select.{find}
 
 -- 'A rack has a ticket, the slot in which it was admitted, its last slot, and a grade.'
 pub record Job : Type 0 where
@@ -21,3 +24,7 @@ laxity j r = r .last + 1 - j
 -- in slot j the job can still be baked
 unfoldable pub in-date : ℕ → Job → Bool
 in-date j r = leb j (r .last)
+
+-- the job with a ticket, if one of the jobs has it
+unfoldable pub with-ticket : ℕ → List Job → Option Job
+with-ticket t A = find (λ (r : Job). eqb (r .ticket) t) A

@@ -4,7 +4,7 @@ ghost use mathlib.Core.Bool.{_||_};
 ghost use mathlib.Core.List.{[], _∷_, map};
 ghost use lib.Dec.{leb};
 ghost use Rattle.board.specs.Tally.{tally-kinds, tally-grades, zero-tally, counted};
-ghost use Rattle.board.specs.Events.{admitted-kind, given-up-kind, event, baked-events, fed};
+ghost use Rattle.board.specs.Events.{admitted-kind, given-up-kind, withdrawn-kind, event, baked-events, fed};
 use board::Counted;
 use board::Tally;
 
@@ -37,7 +37,7 @@ fn refused(number: u8, kept: Tally) -> Counted
     }
 }
 
-// Takes in one event: kind 0 admitted, 1 baked, 2 given up, with a grade. Numbers 9 and 10; the tally is then as before.
+// Takes in one event: kind 0 admitted, 1 baked, 2 given up, 3 withdrawn, with a grade. Numbers 9 and 10; the tally is then as before.
 pub fn count_event(mut t: Tally, kind: u32, grade: u32) -> Counted
     ensures { λ r. ⌜ r ≡ counted t kind grade ⌝ }
 {
@@ -69,6 +69,13 @@ pub fn count_admitted(t: Tally, grade: u32) -> Tally
     ensures { λ r. ⌜ r ≡ fed t (event admitted-kind grade ∷ []) ⌝ }
 {
     fed_event(t, Tally::ADMITTED, grade)
+}
+
+// Counts a job withdrawn.
+pub fn count_withdrawn(t: Tally, grade: u8) -> Tally
+    ensures { λ r. ⌜ r ≡ fed t (event withdrawn-kind grade ∷ []) ⌝ }
+{
+    fed_event(t, Tally::WITHDRAWN, grade as u32)
 }
 
 // Counts the job baked, if there is one: ticket 0 is none.

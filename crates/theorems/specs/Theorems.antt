@@ -16,7 +16,9 @@ use Rattle.board.specs.Limits.{most-in-slot, places-held}
 use Rattle.board.specs.Held.{in-slot}
 use Rattle.board.specs.Sound.{sound}
 use Rattle.board.specs.Open.{opened}
+use Rattle.board.specs.Withdraw.{withdrawn}
 use Rattle.claims.specs.Calls.{Call, board-after}
+use Rattle.claims.specs.Stretches.{DrawnAlone}
 use Rattle.claims.specs.Demand3.{Demand3}
 use Rattle.claims.specs.Balance.{Balance}
 use Rattle.claims.specs.GivenUpInOrder.{GivenUpInOrder}
@@ -28,9 +30,11 @@ use Rattle.lines.specs.BlankGrade.{BlankGrade}
 use Rattle.lines.specs.SheetReadBack.{SheetReadBack}
 
 pub record Theorems : Type 0 where
-  -- for every list of calls: no plan bakes more, and no rival does better by grade
+  -- for every list of calls, on each of its stretches: no plan bakes more, and no rival does better by grade
   pub demand3 : Demand3
-  -- over every run from an empty board: admitted = baked + given up + on the board, for each grade, and no event is refused
+  -- the day books of these stretches are drawn from the arguments alone
+  pub drawn-alone : DrawnAlone
+  -- over every run from an empty board: admitted = baked + given up + withdrawn + on the board, for each grade, and no event is refused
   pub balance : Balance
   -- the jobs given up are listed by grade from best to worst, within a grade by rising ticket, each once and no other
   pub given-up-in-order : GivenUpInOrder
@@ -63,6 +67,8 @@ pub record Theorems : Type 0 where
   pub opening : (d : ℕ) → opened d .refusal ≡ 0 → (sound (opened d .board) ≡ true) × (opened d .board .count ≡ 0)
   -- every call keeps a sound board sound
   pub sound-kept : (b : Board) (c : Call) → sound b ≡ true → sound (board-after b c) ≡ true
+  -- a withdrawal takes no job of the present slot: row 7 counts what it did
+  pub intake-kept : (b : Board) (t : ℕ) → sound b ≡ true → in-slot (withdrawn b t .board) ≡ in-slot b
   -- a sound board with fewer than eight jobs of its slot has a free place
   pub free-place : (b : Board) → sound b ≡ true → in-slot b < most-in-slot → b .count < places-held
   -- each program prints its whole output byte by byte, as it reads

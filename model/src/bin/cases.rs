@@ -1,6 +1,6 @@
 //! Prints small boards and small books with the model's answers.
 //!
-//! `cases COUNT SEED` prints COUNT lines of each of two forms, all numbers in
+//! `cases COUNT SEED` prints COUNT lines of each of three forms, all numbers in
 //! decimal, one space between words.
 //!
 //! `board DEPTH SLOT HIGHEST ; JOB ; ... => TICKET GRADE SHORTFALL ; EXPIRED ; ...`
@@ -18,12 +18,25 @@
 //! In turn come a board of any racks, one on which each rack is in its last slot, and
 //! one whose racks can all be baked and fill the slots up to some wait.
 //!
-//! `book DEPTH SLOT HIGHEST ; CALL ; CALL ... => ANSWER ; ANSWER ... | K0 K1 ...`
-//! is a list of calls on an empty board. CALL is `A TICKET WAIT GRADE` or
-//! `B LENTLENGTH`. There is one ANSWER a call: `A LASTSLOT`, `R NUMBER` for a
-//! refusal, or `B TICKET GRADE GIVENUP SHORTFALL` with the number given up and the
-//! shortfall. K0, K1, ... is the most that any plan of the day book bakes in the first
-//! 0, 1, ... slots, up to the slots closed.
+//! `book DEPTH SLOT HIGHEST ; CALL ; CALL ... => ANSWER ; ANSWER ... | STRETCH | ...`
+//! is a list of calls on an empty board. CALL is `A TICKET WAIT GRADE`,
+//! `B LENTLENGTH` or `W TICKET`. There is one ANSWER a call: `A LASTSLOT`, `R NUMBER`
+//! for a refusal, `B TICKET GRADE GIVENUP SHORTFALL` with the number given up and the
+//! shortfall, or `W GRADE` with the grade of the rack taken off. Then come the stretches
+//! of the list, at least one: each withdrawal that is let through ends one and begins the
+//! next. STRETCH is `SLOT HIGHEST ; JOB ; JOB ... ; K0 K1 ...`: the slot, the highest
+//! ticket and the racks with which the stretch's day book begins, in order of ticket, JOB
+//! being `TICKET ADMITTED LAST GRADE`, and last the most that any plan of that book bakes
+//! in its first 0, 1, ... slots, up to the slots closed in the stretch. In turn come a
+//! list of any calls, and one with more racks than can be baked and more withdrawals.
+//!
+//! `withdraw DEPTH SLOT HIGHEST ; JOB ; ... | TICKET => NUMBER GRADE ; JOB ; ...`
+//! is a sound board and a withdrawal. Before the bar are depth, slot, highest ticket and
+//! racks as above, after it the ticket to withdraw: mostly that of a rack that can be
+//! withdrawn, else 0, one that is not on the board, or one admitted in this slot. After
+//! the arrow are the number of the refusal, 0 for none, and the grade of the rack taken
+//! off, 0 where refused, then the racks on the board afterwards in board order. Now and
+//! then the board has closed the book's last slot.
 
 use std::env;
 use std::io::{self, BufWriter, Write};
@@ -40,6 +53,8 @@ use model::promise;
 use model::samples::{self, Crowd};
 use model::shortfall;
 
+/// Of the tickets to withdraw about one in so many cannot be.
+const NOT_TO_WITHDRAW: u32 = 8;
 /// Most racks of a case's board.
 const MOST_RACKS: u32 = 7;
 /// The longest wait up to which a case's board fills the slots.
@@ -64,8 +79,15 @@ fn main() -> io::Result<()> {
         };
         writeln!(output, "{}", board_case(board))?;
     }
+    for turn in 0..numbers[0] {
+        let crowd = match turn % 2 {
+            0 => Crowd::drawn(&mut draw, MOST_CALLS),
+            _ => Crowd::overfull(&mut draw, MOST_CALLS),
+        };
+        writeln!(output, "{}", book_case(&mut draw, crowd))?;
+    }
     for _ in 0..numbers[0] {
-        writeln!(output, "{}", book_case(&mut draw))?;
+        writeln!(output, "{}", withdraw_case(&mut draw))?;
     }
     output.flush()
 }
@@ -77,17 +99,21 @@ fn filled_board(draw: &mut Draw) -> Board {
     samples::filled_board(draw, slot, wait, (MOST_RACKS - wait) as usize)
 }
 
-fn board_case(mut board: Board) -> String {
+/// The depth, slot, highest ticket and racks of a board, after the form's name.
+fn board_words(form: &str, board: &Board) -> String {
     let (depth, slot, highest) = (board.depth, board.slot, board.highest_ticket);
-    let mut asked = vec![format!("board {depth} {slot} {highest}")];
-    for job in board.jobs() {
-        let (ticket, admitted) = (job.ticket, job.admitted);
-        asked.push(format!(
-            "{ticket} {admitted} {} {}",
-            job.deadline, job.grade
-        ));
-    }
-    let laid = words(&tickets(&shortfall::laid_out(board.jobs(), slot)));
+    let mut parts = vec![format!("{form} {depth} {slot} {highest}")];
+    parts.extend(board.jobs().iter().map(job_words));
+    parts.join(" ; ")
+}
+
+fn job_words(job: &Job) -> String {
+    words(&[job.ticket, job.admitted, job.deadline, job.grade])
+}
+
+fn board_case(mut board: Board) -> String {
+    let asked = board_words("board", &board);
+    let laid = words(&tickets(&shortfall::laid_out(board.jobs(), board.slot)));
     let promised = words(&promise(&board));
     let closed = calls::close(&mut board, MOST_HELD).expect("the board is sound");
     let (ticket, grade, shortfall) = (closed.ticket, closed.grade, closed.shortfall);
@@ -95,7 +121,7 @@ fn board_case(mut board: Board) -> String {
     for job in &closed.expired {
         answered.push(format!("{} {} {}", job.ticket, job.admitted, job.grade));
     }
-    let (asked, answered) = (asked.join(" ; "), answered.join(" ; "));
+    let answered = answered.join(" ; ");
     format!("{asked} => {answered} | {laid} | {promised}")
 }
 
@@ -116,20 +142,28 @@ fn words<T: ToString>(numbers: &[T]) -> String {
     words.join(" ")
 }
 
-fn book_case(draw: &mut Draw) -> String {
+fn book_case(draw: &mut Draw, crowd: Crowd) -> String {
     let depth = draw.between(0, DEEPEST);
     let slot = samples::first_slot(draw);
     let highest = samples::highest_ticket(draw);
-    let crowd = Crowd::drawn(draw, MOST_CALLS);
     let calls = samples::calls(draw, depth, highest, crowd);
     let answers = list::play(&mut Board::holding(depth, slot, highest, &[]), &calls);
-    let book = Book::drawn(depth, slot, highest, &calls);
+    let books = Book::drawn(depth, slot, highest, &calls);
     let mut asked = vec![format!("book {depth} {slot} {highest}")];
     asked.extend(calls.iter().map(call_words));
     let answered: Vec<String> = answers.iter().map(answer_words).collect();
-    let most = words(&plans::most_by_slot(&book));
+    let stretches: Vec<String> = books.iter().map(stretch_words).collect();
     let (asked, answered) = (asked.join(" ; "), answered.join(" ; "));
-    format!("{asked} => {answered} | {most}")
+    format!("{asked} => {answered} | {}", stretches.join(" | "))
+}
+
+/// What a stretch's book begins with, and the most that any plan of it bakes.
+fn stretch_words(book: &Book) -> String {
+    let (slot, highest) = (book.first_slot, book.first_highest);
+    let mut parts = vec![format!("{slot} {highest}")];
+    parts.extend(book.first_arrivals.iter().map(job_words));
+    parts.push(words(&plans::most_by_slot(book)));
+    parts.join(" ; ")
 }
 
 fn call_words(call: &Call) -> String {
@@ -140,6 +174,7 @@ fn call_words(call: &Call) -> String {
             grade,
         } => format!("A {ticket} {laxity} {grade}"),
         Call::Close { lent } => format!("B {lent}"),
+        Call::Withdraw { ticket } => format!("W {ticket}"),
     }
 }
 
@@ -151,6 +186,29 @@ fn answer_words(answer: &Answer) -> String {
             let given_up = closed.expired.len();
             format!("B {ticket} {grade} {given_up} {shortfall}")
         }
+        Answer::Withdrawn(grade) => format!("W {grade}"),
         Answer::Refused(refusal) => format!("R {}", refusal.number()),
+    }
+}
+
+fn withdraw_case(draw: &mut Draw) -> String {
+    let mut board = samples::any_board(draw, MOST_RACKS);
+    let asked = board_words("withdraw", &board);
+    let ticket = ticket_to_withdraw(draw, &board);
+    let (number, grade) = match calls::withdraw(&mut board, ticket) {
+        Ok(grade) => (0, grade),
+        Err(refusal) => (refusal.number(), 0),
+    };
+    let mut answered = vec![format!("{number} {grade}")];
+    answered.extend(board.jobs().iter().map(job_words));
+    format!("{asked} | {ticket} => {}", answered.join(" ; "))
+}
+
+/// Mostly the ticket of a rack that can be withdrawn.
+fn ticket_to_withdraw(draw: &mut Draw, board: &Board) -> u32 {
+    let can_be = samples::to_withdraw(draw, board);
+    match can_be {
+        Some(ticket) if !draw.one_in(NOT_TO_WITHDRAW) => ticket,
+        _ => samples::not_to_withdraw(draw, board),
     }
 }

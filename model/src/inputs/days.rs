@@ -1,8 +1,10 @@
 //! Days in which nearly every line is taken.
 
+use super::full::Hovering;
 use super::questions::with_questions;
-use super::writer::{admitting, Writer};
-use crate::board::worst_grade;
+use super::withdrawals::with_withdrawals;
+use super::writer::{admitting, opened, Writer};
+use crate::board::{worst_grade, Board};
 use crate::draw::Draw;
 use crate::limits::{DEEPEST, LAST_SLOT, LONGEST_LAXITY, MOST_PER_SLOT};
 
@@ -11,13 +13,14 @@ pub fn ordinary(draw: &mut Draw, slots: u32) -> Vec<u8> {
     let mut writer = opened(draw);
     let longest = draw.pick(&[4, 12, LONGEST_LAXITY]);
     for _ in 0..slots {
-        for _ in 0..draw.pick(&[0, 0, 0, 1, 1, 1, 2, 4]) {
+        for _ in 0..draw.pick(&[0, 0, 0, 1, 1, 1, 2, 5]) {
             let (laxity, grade) = (draw.between(1, longest), writer.grade(draw));
             writer.admit(draw, laxity, grade);
         }
         writer.close();
     }
-    with_questions(draw, &writer.bytes, 5)
+    let bytes = with_withdrawals(draw, &writer.bytes, 12);
+    with_questions(draw, &bytes, 5)
 }
 
 /// More racks than the oven can bake; now and then more than a slot admits.
@@ -31,7 +34,8 @@ pub fn overfull(draw: &mut Draw, slots: u32) -> Vec<u8> {
         }
         writer.close();
     }
-    with_questions(draw, &writer.bytes, 8)
+    let bytes = with_withdrawals(draw, &writer.bytes, 12);
+    with_questions(draw, &bytes, 8)
 }
 
 /// Turns of up to 32 slots. Nearly every rack of a turn has the turn's last slot, and
@@ -44,7 +48,9 @@ pub fn given_up(draw: &mut Draw, slots: u32) -> Vec<u8> {
         one_turn(draw, &mut writer, turn);
         left -= turn;
     }
-    with_questions(draw, &writer.bytes, 8)
+    // With more of them too few would be left to be given up.
+    let bytes = with_withdrawals(draw, &writer.bytes, 40);
+    with_questions(draw, &bytes, 8)
 }
 
 /// A turn of so many slots. Grades are any, or the better ones come later.
@@ -80,7 +86,8 @@ pub fn ties(draw: &mut Draw, slots: u32) -> Vec<u8> {
         }
         writer.close();
     }
-    with_questions(draw, &writer.bytes, 5)
+    let bytes = with_withdrawals(draw, &writer.bytes, 12);
+    with_questions(draw, &bytes, 5)
 }
 
 /// Tickets that come to the greatest, stay there, and try to pass it.
@@ -95,10 +102,11 @@ pub fn tickets(draw: &mut Draw, slots: u32) -> Vec<u8> {
         }
         writer.close();
     }
-    with_questions(draw, &writer.bytes, 5)
+    let bytes = with_withdrawals(draw, &writer.bytes, 5);
+    with_questions(draw, &bytes, 5)
 }
 
-/// Eight racks in every slot at depth 3, tickets one apart, and no questions.
+/// Eight racks in every slot at depth 3, tickets one apart; no questions, no withdrawals.
 pub fn long(draw: &mut Draw, slots: u32) -> Vec<u8> {
     let mut writer = Writer::new();
     writer.open(DEEPEST);
@@ -114,30 +122,27 @@ pub fn long(draw: &mut Draw, slots: u32) -> Vec<u8> {
     writer.bytes
 }
 
-/// Closings up to the last slots, racks and questions there, and then calls past the
-/// end, questions too.
+/// Closings up to the last slots, racks, questions and withdrawals there, and then calls
+/// past the end, questions and withdrawals too.
 pub fn end(draw: &mut Draw, slots: u32) -> Vec<u8> {
     let mut writer = opened(draw);
     let slots = slots.min(LAST_SLOT);
     for _ in slots..LAST_SLOT {
         writer.close();
     }
+    let board = Board::holding(writer.depth, LAST_SLOT - slots + 1, 0, &[]);
+    let mut day = Hovering { writer, board };
     for _ in 0..slots + 3 {
-        writer.ask();
-        for _ in 0..draw.between(0, 3) {
+        day.writer.ask();
+        // Another rack comes for one that is taken back.
+        let taken_back = draw.one_in(2) && day.withdraw(draw);
+        for _ in 0..draw.pick(&[0, 1, 1, 2, 2, 3, 3]) + u32::from(taken_back) {
             let laxity = draw.between(1, LONGEST_LAXITY + 1);
-            let grade = writer.grade(draw);
-            writer.admit(draw, laxity, grade);
+            day.admit(draw, laxity);
         }
-        writer.ask();
-        writer.close();
+        day.withdraw_in_vain(draw);
+        day.writer.ask();
+        day.close();
     }
-    writer.bytes
-}
-
-/// A writer that has opened a board of some depth.
-fn opened(draw: &mut Draw) -> Writer {
-    let mut writer = Writer::new();
-    writer.open(draw.between(0, DEEPEST));
-    writer
+    day.writer.bytes
 }

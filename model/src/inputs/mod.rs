@@ -6,6 +6,7 @@ mod pages;
 mod promise;
 mod questions;
 mod spoilt;
+mod withdrawals;
 mod writer;
 
 use crate::draw::Draw;
@@ -22,7 +23,7 @@ pub struct Kind {
 }
 
 /// All kinds.
-pub const KINDS: [Kind; 15] = [
+pub const KINDS: [Kind; 16] = [
     Kind {
         name: "ordinary",
         about: "ordinary days, about as many racks as slots",
@@ -112,6 +113,12 @@ pub const KINDS: [Kind; 15] = [
         about: "asks often what can still be promised, and gets every answer",
         size: 100,
         make: promise::promise,
+    },
+    Kind {
+        name: "withdrawals",
+        about: "takes racks back often; some withdrawals are refused, for every reason",
+        size: 100,
+        make: withdrawals::withdrawals,
     },
 ];
 

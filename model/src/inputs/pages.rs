@@ -1,7 +1,7 @@
 //! Days of so many closings exactly, for the pages of the sheet.
 
 use super::questions::with_questions;
-use super::spoilt::{refused_line, without_last_end, wrong_before_opening};
+use super::spoilt::{doubtful_withdrawing, refused_line, without_last_end, wrong_before_opening};
 use super::writer::Writer;
 use crate::draw::Draw;
 use crate::limits::{DEEPEST, LONGEST_LAXITY, MOST_PER_SLOT};
@@ -13,8 +13,8 @@ const EARLY: u32 = (LONGEST_LAXITY - 1) / (MOST_PER_SLOT as u32 - 1) + 1;
 /// Slots of a crowd.
 const CROWD: u32 = EARLY + LONGEST_LAXITY;
 
-/// So many closings, refused lines and questions between them. Many slots bake nothing,
-/// and where there is room one of them gives up 255 racks.
+/// So many closings, refused lines, withdrawals and questions between them. Many slots
+/// bake nothing, and where there is room one of them gives up 255 racks.
 pub fn pages(draw: &mut Draw, closings: u32) -> Vec<u8> {
     let mut writer = Writer::new();
     for _ in 0..draw.between(0, 2) {
@@ -35,13 +35,17 @@ pub fn pages(draw: &mut Draw, closings: u32) -> Vec<u8> {
         admit(draw, &mut writer, LONGEST_LAXITY);
         refused_lines(draw, &mut writer);
     }
-    let bytes = with_questions(draw, &writer.bytes, 10);
+    let bytes = with_questions(draw, &writer.bytes, 6);
     without_last_end(draw, bytes)
 }
 
 /// So many slots with few racks, none of which waits past the last of them.
 fn calm_slots(draw: &mut Draw, writer: &mut Writer, slots: u32) {
     for left in (1..=slots).rev() {
+        if draw.one_in(3) {
+            let line = doubtful_withdrawing(draw, writer);
+            writer.line(&line);
+        }
         for _ in 0..draw.pick(&[0, 0, 0, 0, 1, 3]) {
             admit(draw, writer, left.min(LONGEST_LAXITY));
         }

@@ -80,6 +80,10 @@ fn one_slot(draw: &mut Draw, day: &mut Hovering, turn: &Turn) {
         day.admit_up_to(draw, laxity, (0, turn.lost));
         ask(draw, day);
     }
+    if draw.one_in(4) {
+        day.withdraw(draw);
+        ask(draw, day);
+    }
     day.close();
     ask(draw, day);
 }

@@ -2,13 +2,14 @@
 
 use super::days;
 use super::questions::with_questions;
-use super::writer::{admitting, zeros, Writer};
+use super::withdrawals::with_refused_withdrawals;
+use super::writer::{admitting, withdrawing, zeros, Writer};
 use crate::board::worst_grade;
 use crate::draw::Draw;
 use crate::limits::{DEEPEST, LONGEST_LAXITY, LONGEST_LINE, MOST_PER_SLOT};
 
 /// Bytes that a damaged line may get.
-const STRAY: &[u8] = b"\r\0\t ,,,,;\"'+-.0123456789ABDQabdqGRT\x0b\x7f\x80\xbf\xc3\xff";
+const STRAY: &[u8] = b"\r\0\t ,,,,;\"'+-.0123456789ABDQWabdqwGRT\x0b\x7f\x80\xbf\xc3\xff";
 
 /// Lines that row 12 refuses.
 const LETTERS: &[&str] = &[
@@ -30,6 +31,12 @@ const LETTERS: &[&str] = &[
     "QQ",
     "Q ",
     " Q",
+    "w",
+    "WW",
+    "W ",
+    " W",
+    "w,1",
+    " W,1",
     "0",
     "1",
     ",",
@@ -40,6 +47,8 @@ const LETTERS: &[&str] = &[
     "\r",
     "B\r",
     "Q\r",
+    "W\r",
+    "W;1",
     "A;1;1;1",
     "\"A\",1,1,1",
 ];
@@ -89,7 +98,8 @@ pub fn refusals(draw: &mut Draw, lines: u32) -> Vec<u8> {
             writer.line(&line);
         }
     }
-    with_questions(draw, &writer.bytes, 10)
+    let bytes = with_refused_withdrawals(draw, &writer.bytes, 10);
+    with_questions(draw, &bytes, 10)
 }
 
 /// A line that is refused while no board is open, whatever came before.
@@ -99,7 +109,7 @@ pub fn wrong_before_opening(draw: &mut Draw, writer: &mut Writer) -> Vec<u8> {
             let depth = draw.pick(&[4, 5, 9, 255, 256, u32::MAX]);
             format!("D,{}", zeros(draw, depth)).into_bytes()
         }
-        1 => vec![draw.pick(b"BQ")],
+        1 => draw.pick(&["B", "Q", "W,0", "W,1"]).as_bytes().to_vec(),
         2 => format!("D,{}", draw.pick(FIELDS)).into_bytes(),
         _ => wrong_line(draw, writer),
     }
@@ -108,19 +118,20 @@ pub fn wrong_before_opening(draw: &mut Draw, writer: &mut Writer) -> Vec<u8> {
 /// A line that is refused, or that may be, while a board is open. With none
 /// open it is refused too, as it never opens one.
 fn wrong_line(draw: &mut Draw, writer: &mut Writer) -> Vec<u8> {
-    match draw.between(0, 5) {
-        5 => doubtful_admitting(draw, writer),
+    match draw.between(0, 8) {
+        6 | 7 => doubtful_admitting(draw, writer),
+        8 => doubtful_withdrawing(draw, writer),
         sort => refused_of(draw, writer, sort),
     }
 }
 
 /// A line that is refused, whether a board is open or not.
 pub fn refused_line(draw: &mut Draw, writer: &Writer) -> Vec<u8> {
-    let sort = draw.between(0, 4);
+    let sort = draw.between(0, 5);
     refused_of(draw, writer, sort)
 }
 
-/// A refused line of one of five sorts, 0 to 4.
+/// A refused line of one of six sorts, 0 to 5.
 fn refused_of(draw: &mut Draw, writer: &Writer, sort: u32) -> Vec<u8> {
     match sort {
         0 => draw.pick(LETTERS).as_bytes().to_vec(),
@@ -131,13 +142,19 @@ fn refused_of(draw: &mut Draw, writer: &Writer, sort: u32) -> Vec<u8> {
             let depth = draw.between(DEEPEST + 1, 20);
             format!("D,{depth}").into_bytes()
         }
+        4 => {
+            // Never a ticket that was admitted.
+            let never = writer.highest.checked_add(draw.between(1, 9));
+            let ticket = draw.pick(&[0, never.unwrap_or(0)]);
+            withdrawing(draw, ticket)
+        }
         _ => overlong_line(draw),
     }
 }
 
 /// A known letter with the wrong number of fields, some of them wrong too.
 fn wrong_count(draw: &mut Draw) -> Vec<u8> {
-    let (letter, right) = draw.pick(&[("D", 1), ("A", 3), ("B", 0), ("Q", 0)]);
+    let (letter, right) = draw.pick(&[("D", 1), ("A", 3), ("B", 0), ("Q", 0), ("W", 1)]);
     let mut many = draw.between(0, 5);
     if many == right {
         many += 1;
@@ -150,10 +167,11 @@ fn wrong_count(draw: &mut Draw) -> Vec<u8> {
     line.into_bytes()
 }
 
-/// An A or D line with one field or more that row 14 refuses.
+/// An A, D or W line with one field or more that row 14 refuses.
 fn wrong_field(draw: &mut Draw, writer: &Writer) -> Vec<u8> {
     if draw.one_in(4) {
-        return format!("D,{}", draw.pick(FIELDS)).into_bytes();
+        let field = draw.pick(&[FIELDS, &[""]].concat());
+        return format!("{},{field}", draw.pick(&["D", "W", "W"])).into_bytes();
     }
     let next = writer.highest.saturating_add(1).to_string();
     let mut fields = [next.as_str(), "3", draw.pick(&["0", ""])];
@@ -179,6 +197,16 @@ fn doubtful_admitting(draw: &mut Draw, writer: &mut Writer) -> Vec<u8> {
     admitting(u64::from(ticket), laxity, grade)
 }
 
+/// A W line whose ticket is on the board or not, admitted in this slot or before it.
+pub fn doubtful_withdrawing(draw: &mut Draw, writer: &Writer) -> Vec<u8> {
+    let highest = writer.highest;
+    let late = highest.saturating_sub(draw.between(0, 9));
+    let any = draw.between(0, highest);
+    let next = highest.saturating_add(1);
+    let ticket = draw.pick(&[highest, late, late, late, any, next, 0, u32::MAX]);
+    withdrawing(draw, ticket)
+}
+
 /// A line about as long as allowed, or far longer.
 fn overlong_line(draw: &mut Draw) -> Vec<u8> {
     let about = LONGEST_LINE as u32;
@@ -196,6 +224,9 @@ fn overlong_line(draw: &mut Draw) -> Vec<u8> {
         b"B,",
         b"Q",
         b"Q,",
+        b"W",
+        b"W,",
+        b"W,1",
     ]);
     let filling = draw.pick(b"0 ,xB\r\0\xff");
     let mut line = start.to_vec();
@@ -219,7 +250,8 @@ pub fn overlong(draw: &mut Draw, lines: u32) -> Vec<u8> {
             _ => writer.line(&overlong_line(draw)),
         }
     }
-    let bytes = with_questions(draw, &writer.bytes, 8);
+    let bytes = with_refused_withdrawals(draw, &writer.bytes, 8);
+    let bytes = with_questions(draw, &bytes, 8);
     without_last_end(draw, bytes)
 }
 
@@ -283,6 +315,7 @@ pub fn tiny(draw: &mut Draw, most: u32) -> Vec<u8> {
             b"B",
             b"D",
             b"Q",
+            b"W",
             b"0",
             b"1",
             b"2",
@@ -292,6 +325,8 @@ pub fn tiny(draw: &mut Draw, most: u32) -> Vec<u8> {
             b"\nQ\n",
             b"\nA,1,1,0\n",
             b"\nA,2,1,\n",
+            b"\nA,3,9,1\nA,4,9,1\n",
+            b"\nW,4\n",
             b"\nD,2\n",
         ];
         bytes.extend_from_slice(draw.pick(&parts));
@@ -322,6 +357,7 @@ pub fn mixed(draw: &mut Draw, slots: u32) -> Vec<u8> {
         }
         writer.close();
     }
-    let bytes = with_questions(draw, &writer.bytes, 6);
+    let bytes = with_refused_withdrawals(draw, &writer.bytes, 8);
+    let bytes = with_questions(draw, &bytes, 6);
     without_last_end(draw, bytes)
 }

@@ -2,6 +2,7 @@
 
 use crate::board::worst_grade;
 use crate::draw::Draw;
+use crate::limits::DEEPEST;
 
 /// The bytes so far and what the next good line needs to know.
 pub struct Writer {
@@ -55,12 +56,30 @@ impl Writer {
     pub fn ask(&mut self) {
         self.line(b"Q");
     }
+
+    /// Withdraws the rack with this ticket.
+    pub fn withdraw(&mut self, draw: &mut Draw, ticket: u32) {
+        let line = withdrawing(draw, ticket);
+        self.line(&line);
+    }
+}
+
+/// A writer that has opened a board of some depth.
+pub fn opened(draw: &mut Draw) -> Writer {
+    let mut writer = Writer::new();
+    writer.open(draw.between(0, DEEPEST));
+    writer
 }
 
 /// A line that admits; where there is no grade its field is blank.
 pub fn admitting(ticket: u64, laxity: u32, grade: Option<u32>) -> Vec<u8> {
     let grade = grade.map_or(String::new(), |grade| grade.to_string());
     format!("A,{ticket},{laxity},{grade}").into_bytes()
+}
+
+/// A line that withdraws, now and then written in other ways.
+pub fn withdrawing(draw: &mut Draw, ticket: u32) -> Vec<u8> {
+    format!("W,{}", zeros(draw, ticket)).into_bytes()
 }
 
 /// A number, now and then with leading zeros, in at most ten digits.

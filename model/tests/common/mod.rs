@@ -6,6 +6,8 @@
 pub mod boards;
 pub mod paper;
 pub mod spread;
+pub mod trials;
+pub mod withdrawals;
 
 use std::collections::BTreeSet;
 
@@ -13,15 +15,13 @@ use model::board::{open, Board, Job};
 use model::book::Book;
 use model::calls::{admit, close, Closed};
 use model::day::{Day, Done};
-use model::draw::Draw;
-use model::limits::{DEEPEST, LONGEST_LAXITY, MOST_HELD};
+use model::limits::{LONGEST_LAXITY, MOST_HELD};
 use model::lines::next_line;
 use model::list::{play_with, Answer, Call};
-use model::plans::{is_unbeaten, most_baked, plan_of, Plan};
+use model::plans::most_baked;
 use model::printing;
 use model::promise::further;
 use model::rule::{excess, laxity, tight_laxity};
-use model::samples::{self, Crowd};
 
 /// A way to name the rack to bake from racks, slot and depth.
 pub type Pick = fn(&[Job], u32, u32) -> Option<Job>;
@@ -81,60 +81,6 @@ pub fn closings(board: &mut Board, many: usize, pick: Pick) -> Vec<(u32, u32, Ve
 fn short(closed: &Closed) -> (u32, u32, Vec<u32>) {
     let given_up = closed.expired.iter().map(|job| job.ticket).collect();
     (closed.ticket, closed.grade, given_up)
-}
-
-/// An empty board's depth, slot and highest ticket, and a list of calls for it.
-#[derive(Debug)]
-pub struct Trial {
-    pub depth: u32,
-    pub slot: u32,
-    pub highest: u32,
-    pub calls: Vec<Call>,
-}
-
-impl Trial {
-    pub fn drawn(draw: &mut Draw, most_calls: u32) -> Trial {
-        let depth = draw.between(0, DEEPEST);
-        let slot = samples::first_slot(draw);
-        let highest = samples::highest_ticket(draw);
-        let crowd = Crowd::drawn(draw, most_calls);
-        let calls = samples::calls(draw, depth, highest, crowd);
-        Trial {
-            depth,
-            slot,
-            highest,
-            calls,
-        }
-    }
-
-    pub fn board(&self) -> Board {
-        Board::holding(self.depth, self.slot, self.highest, &[])
-    }
-
-    pub fn book(&self) -> Book {
-        Book::drawn(self.depth, self.slot, self.highest, &self.calls)
-    }
-
-    /// The plan that a board makes which bakes by this pick.
-    pub fn plan<P>(&self, pick: P) -> Plan
-    where
-        P: FnMut(&[Job], u32, u32) -> Option<Job>,
-    {
-        plan_of(&play_with(&mut self.board(), &self.calls, pick))
-    }
-}
-
-/// In how many of so many random lists of calls some plan beats this pick's total.
-pub fn beaten(pick: Pick, trials: usize) -> usize {
-    let mut draw = Draw::new(77);
-    let mut beaten = 0;
-    for _ in 0..trials {
-        let trial = Trial::drawn(&mut draw, 24);
-        if !is_unbeaten(&trial.book(), &trial.plan(pick)) {
-            beaten += 1;
-        }
-    }
-    beaten
 }
 
 /// The smallest excess of these racks; none where there are no racks.
@@ -261,10 +207,7 @@ pub fn sets_baked(jobs: &[Job], slot: u32) -> BTreeSet<u32> {
 
 /// A book of these racks that begins with this slot, for the plans from it on.
 pub fn book_from(jobs: &[Job], slot: u32) -> Book {
-    Book {
-        jobs: jobs.to_vec(),
-        ..Book::begin(0, slot, 0)
-    }
+    Book::begin_with(0, slot, 0, jobs)
 }
 
 /// The least number of these racks that any plan from this slot on gives up, by

@@ -11,8 +11,8 @@ use mathlib.Core.Bool.{Bool, true, false}
 use mathlib.Core.List.{List, [], _∷_}
 use Prim.Native.Nat.{ℕ}
 use Rattle.lists.specs.Select.{every}
-use Rattle.claims.specs.Calls.{admit, close}
-use Rattle.cases.proofs.Right.{place, board, sound-right, board-right, book-right, day-right, sheet-right, figures, page-right}
+use Rattle.claims.specs.Calls.{admit, close, withdraw}
+use Rattle.cases.proofs.Right.{place, board, sound-right, board-right, withdraw-right, stretch, book-right, day-right, sheet-right, figures, page-right}
 ";
 
 /// A module that holds if every case does.

@@ -7,6 +7,7 @@ pub fn case(line: &str) -> String {
     match line.split_whitespace().next() {
         Some("board") => board(&line[5..]),
         Some("book") => calls(&line[4..]),
+        Some("withdraw") => withdrawal(&line[8..]),
         _ => soundness(line),
     }
 }
@@ -15,6 +16,12 @@ pub fn case(line: &str) -> String {
 fn numbers(piece: &str) -> Vec<u64> {
     let words = piece.split_whitespace();
     words.map(|word| word.parse().expect("a number")).collect()
+}
+
+/// Pieces as lists of their numbers.
+fn lists(pieces: &[&str]) -> String {
+    let lists: Vec<String> = pieces.iter().map(|piece| list(&numbers(piece))).collect();
+    list(&lists)
 }
 
 /// A piece as arguments.
@@ -53,10 +60,7 @@ fn board(line: &str) -> String {
     let asked: Vec<&str> = asked.split(';').collect();
     let told: Vec<&str> = told.split(';').collect();
     let baked = numbers(told[0]);
-    let gone: Vec<String> = told[1..]
-        .iter()
-        .map(|piece| list(&numbers(piece)))
-        .collect();
+    let gone = &told[1..];
     let answer = [0, baked[0], baked[1], gone.len() as u64, baked[2]];
     let highest = numbers(asked[0])[2];
     let promised = numbers(promised);
@@ -66,7 +70,7 @@ fn board(line: &str) -> String {
         asked.len() - 1,
         places(&asked[1..]),
         list(&answer),
-        list(&gone),
+        lists(gone),
         list(&numbers(laid)),
         promised[0],
         list(&kept(&promised[1..], highest))
@@ -79,10 +83,28 @@ fn kept(told: &[u64], highest: u64) -> Vec<u64> {
     told.iter().map(ticket).collect()
 }
 
-/// `DEPTH SLOT HIGHEST ; CALL ; ... => ANSWER ; ... | K0 K1 ...`
+/// `DEPTH SLOT HIGHEST ; JOB ; ... | TICKET => NUMBER GRADE ; JOB ; ...`
+fn withdrawal(line: &str) -> String {
+    let (asked, told) = line.split_once("=>").expect("an arrow");
+    let (asked, ticket) = asked.split_once('|').expect("a bar");
+    let asked: Vec<&str> = asked.split(';').collect();
+    let told: Vec<&str> = told.split(';').collect();
+    format!(
+        "withdraw-right (board {} {} {}) {} {} {}",
+        arguments(asked[0]),
+        asked.len() - 1,
+        places(&asked[1..]),
+        arguments(ticket),
+        list(&numbers(told[0])),
+        lists(&told[1..])
+    )
+}
+
+/// `DEPTH SLOT HIGHEST ; CALL ; ... => ANSWER ; ... | STRETCH | STRETCH ...`
 fn calls(line: &str) -> String {
     let (asked, told) = line.split_once("=>").expect("an arrow");
-    let (told, most) = told.split_once('|').expect("a bar");
+    let (told, stretches) = told.split_once('|').expect("a bar");
+    let stretches: Vec<String> = stretches.split('|').map(stretch).collect();
     let asked: Vec<&str> = asked.split(';').collect();
     let calls: Vec<String> = asked[1..].iter().map(|piece| call(piece)).collect();
     let told: Vec<&str> = told
@@ -100,7 +122,19 @@ fn calls(line: &str) -> String {
         arguments(asked[0]),
         list(&calls),
         list(&answers),
-        list(&numbers(most))
+        list(&stretches)
+    )
+}
+
+/// `SLOT HIGHEST ; JOB ; ... ; K0 K1 ...`
+fn stretch(told: &str) -> String {
+    let told: Vec<&str> = told.split(';').collect();
+    let last = told.len() - 1;
+    format!(
+        "stretch {} {} {}",
+        arguments(told[0]),
+        lists(&told[1..last]),
+        list(&numbers(told[last]))
     )
 }
 
@@ -109,18 +143,19 @@ fn call(piece: &str) -> String {
     match piece.split_at(1) {
         ("A", rest) => format!("admit {}", arguments(rest)),
         ("B", rest) => format!("close {}", arguments(rest)),
+        ("W", rest) => format!("withdraw {}", arguments(rest)),
         _ => panic!("no call: {piece}"),
     }
 }
 
 /// An answer as its numbers, the refusal first and, where it is one, 0 for the rest.
 fn answer(call: &str, told: &str) -> String {
-    let admits = call.trim().starts_with('A');
+    let closes = call.trim().starts_with('B');
     let told = told.trim();
     let mut answer = numbers(&told[1..]);
     if !told.starts_with('R') {
         answer.insert(0, 0);
     }
-    answer.resize(if admits { 2 } else { 5 }, 0);
+    answer.resize(if closes { 5 } else { 2 }, 0);
     list(&answer)
 }

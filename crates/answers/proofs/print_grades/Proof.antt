@@ -7,7 +7,7 @@ use native.Mathlib.Omega.{arith}
 use borrow.Author.Needs.{needs}
 use lib.ListN.{length}
 use Rattle.board.specs.Tally.{tally-kinds, tally-grades}
-use Rattle.board.specs.Events.{admitted-kind, baked-kind, given-up-kind}
+use Rattle.board.specs.Events.{admitted-kind, baked-kind, given-up-kind, withdrawn-kind}
 use Rattle.lines.specs.Bytes.{Bytes, letter-T}
 use Rattle.lines.specs.Printing.{printed}
 use Rattle.lines.specs.Output.{tally-line, printed-tally}
@@ -44,6 +44,10 @@ count-of-requires-3 : tie.Need-count-of-requires-3 Inv-loop μ-loop
 unfolding tally-kinds tally-grades
 count-of-requires-3 c κs = search needs
 
+count-of-requires-4 : tie.Need-count-of-requires-4 Inv-loop μ-loop
+unfolding tally-kinds tally-grades
+count-of-requires-4 c κs = search needs
+
 slice-aggregate-print-at : tie.Need-slice-aggregate-print-at Inv-loop μ-loop
 slice-aggregate-print-at c = search needs
 
@@ -58,19 +62,21 @@ loop-less : tie.Need-loop-less Inv-loop μ-loop
 loop-less c = search needs
 
 loop-again : tie.Need-loop-again Inv-loop μ-loop
-unfolding letter-T room tally-room tally-line admitted-kind baked-kind given-up-kind
+unfolding letter-T room tally-room tally-line admitted-kind baked-kind given-up-kind withdrawn-kind
 loop-again c =
     let p = c .before .before .print-at in
     let q = c .before .before .before .before .before in
-    let t = q .before .before .before in
+    let t = q .before .before .before .before in
     let s = t .before .before .before in
     let a = s .args in
     let l = t .before .loop in
     let v = l .inv in
     let g = l .g in
     let line = tally-line g (a .t) in
-    let day-after : printed 84 (g ∷ q .before .before .count-of .result ∷ q .before .count-of2 .result ∷ q .count-of3 .result ∷ []) ≡ line =
-    rw (q .before .before .count-of .ensures, q .before .count-of2 .ensures, q .count-of3 .ensures)
+    let p3 = q .before in
+    let same-line
+    : printed 84 (g ∷ p3 .before .before .count-of .result ∷ p3 .before .count-of2 .result ∷ p3 .count-of3 .result ∷ q .count-of4 .result ∷ []) ≡ line =
+    rw (p3 .before .before .count-of .ensures, p3 .before .count-of2 .ensures, p3 .count-of3 .ensures, q .count-of4 .ensures)
     in
     let rest = printed-tally (a .grades - (g + 1)) (g + 1) (a .t) in
     let n = tally-next (a .grades) g (a .t) (t .loop-test .taken) in (
@@ -78,8 +84,8 @@ loop-again c =
       omega arith,
       p .kept .0 ∙ v .2,
       fewer-left line rest (l .out) (l .end) _ _ (rw n at (v .3)) (omega arith)
-          (p .ensures .end ∙ ap (λ (x : Bytes). l .end + length x) day-after)
-          (p .ensures .bytes ∙ ap (put (l .out) (l .end)) day-after),
+          (p .ensures .end ∙ ap (λ (x : Bytes). l .end + length x) same-line)
+          (p .ensures .bytes ∙ ap (put (l .out) (l .end)) same-line),
     )
 
 same-length : tie.Need-same-length Inv-loop μ-loop
@@ -104,6 +110,7 @@ print-grades-spec =
     count-of-requires
     count-of-requires-2
     count-of-requires-3
+    count-of-requires-4
     slice-aggregate-print-at
     print-at-requires
     add-g

@@ -1,9 +1,10 @@
--- The jobs on the board that admitting or closing hands back.
+-- The jobs on the board that admitting, closing or withdrawing hands back.
 use mathlib.Core.Path.{_≡_, ap, _∙_}
-use mathlib.Core.Bool.{Bool}
+use mathlib.Core.Bool.{Bool, not}
 use mathlib.Core.List.{[], _∷_, _++_, map, map-append}
 use Prim.Native.Nat.{ℕ, _+_, _-_, _<_}
 use native.Mathlib.Numerals.{add-one}
+use lib.Dec.{eqb}
 use lib.ListN.{length, replicate}
 use lib.Seq.{take-suc-set, take-append-seam}
 use Rattle.lists.specs.Select.{select}
@@ -15,6 +16,7 @@ use Rattle.board.specs.Limits.{places-held}
 use Rattle.board.specs.Held.{slot-of, slot-number, job-in, blank, used, held, passing, thinned}
 use Rattle.board.specs.Admit.{last-of, with-job}
 use Rattle.board.specs.Close.{moved-on-with}
+use Rattle.board.specs.Withdraw.{without-ticket}
 use Rattle.lists.proofs.Parts.{select-map}
 
 -- the place of a new job
@@ -37,3 +39,7 @@ held-thinned b k test =
 pub held-moved-on : (b : Board) (t : ℕ) → held (moved-on-with b t) ≡ select (stays (slot-of b) t) (held b)
 unfolding moved-on-with
 held-moved-on b t = held-thinned b (slot-of b + 1) (stays (slot-of b) t)
+
+pub held-without : (b : Board) (t : ℕ) → held (without-ticket b t) ≡ select (λ (r : Job). not (eqb (r .ticket) t)) (held b)
+unfolding without-ticket
+held-without b t = held-thinned b (slot-of b) (λ (r : Job). not (eqb (r .ticket) t))

@@ -2,13 +2,15 @@
 use mathlib.Core.Path.{_≡_, refl}
 use mathlib.Core.Bool.{Bool, true, false, _&&_, true≢false}
 use mathlib.Core.List.{List, _∷_}
+use mathlib.Core.Option.{Option, none, some}
 use Prim.Native.Nat.{ℕ, suc, _^_, _≤_, _<_}
 use native.Mathlib.Omega.{arith}
 use lib.Dec.{leb}
 use borrow.Author.Tests.{leb-true, leb-false, eqb-false, not-false}
 use Rattle.lists.proofs.Tests.{and-left, and-right}
+use Rattle.rule.specs.Job.{Job, with-ticket}
 use Rattle.board.specs.Limits.{longest-laxity, most-in-slot, places-held, last-slot}
-use Rattle.board.specs.Rows.{Row, _if_, first-given, admit-rows, close-rows}
+use Rattle.board.specs.Rows.{Row, _if_, first-given, admit-rows, close-rows, not-to-withdraw, withdraw-rows}
 
 -- no row is given: not the first, and none of the others
 pub row-passed : (n : ℕ) (g : Bool) (rows : List Row) → first-given (suc n if g ∷ rows) ≡ 0 → (g ≡ false) × (first-given rows ≡ 0)
@@ -33,6 +35,13 @@ pub record Admits (slot highest in-slot depth ticket laxity grade : ℕ) : Type 
 pub record Closes (slot lent : ℕ) : Type 0 where
   pub going : slot ≡ suc last-slot → ⊥
   pub long : places-held ≤ lent
+
+-- the job that is taken off
+pub record Withdraws (slot : ℕ) (waiting : List Job) (ticket : ℕ) : Type 0 where
+  pub going : slot ≡ suc last-slot → ⊥
+  pub taken-off : Job
+  pub found : with-ticket ticket waiting ≡ some taken-off
+  pub older : taken-off .admitted ≡ slot → ⊥
 
 module _ (slot highest in-slot depth ticket laxity grade : ℕ) where
   pub admits : first-given (admit-rows slot highest in-slot depth ticket laxity grade) ≡ 0 → Admits slot highest in-slot depth ticket laxity grade
@@ -62,3 +71,13 @@ closes slot lent h =
       going = eqb-false slot (suc last-slot) (three .0);
       long = leb-true places-held lent (not-false _ (eight .0));
     }
+
+pub withdraws : (slot : ℕ) (waiting : List Job) (ticket : ℕ) → first-given (withdraw-rows slot waiting ticket) ≡ 0 → Withdraws slot waiting ticket
+unfolding withdraw-rows not-to-withdraw
+withdraws slot waiting ticket h =
+    let three = row-passed 2 _ _ h in
+    go (with-ticket ticket waiting) refl (eqb-false slot (suc last-slot) (three .0)) (row-passed 16 _ _ (three .1) .0)
+  where
+    go : (o : Option Job) → with-ticket ticket waiting ≡ o → (slot ≡ suc last-slot → ⊥) → not-to-withdraw slot o ≡ false → Withdraws slot waiting ticket
+    go none e going n = absurd (true≢false n)
+    go (some r) e going n = record { going = going; taken-off = r; found = e; older = eqb-false (r .admitted) slot n }

@@ -13,7 +13,7 @@ use Rattle.lists.proofs.Members.{select-mem, select-cong, select-select, mem-ha
 use Rattle.lists.proofs.Counting.{count-none}
 use Rattle.rule.specs.Job.{Job, in-date}
 use Rattle.rule.specs.Bake.{baked, stays, ticket-of}
-use Rattle.books.specs.Book.{Beginning, Change, end-slot, Book, jobs, extend}
+use Rattle.books.specs.Book.{Beginning, Change, end-slot, Book, present, jobs, extend}
 use Rattle.books.specs.Rule.{valid, without}
 use Rattle.books.specs.NoRegretRule.{our-choice}
 use Rattle.board.specs.declared.Board.{Board}
@@ -25,7 +25,9 @@ use Rattle.board.proofs.Calls.HeldAfter.{held-moved-on}
 use Rattle.board.proofs.Calls.SoundAfter.{moved-on-sound, close-going}
 use Rattle.books.proofs.Walks.Extended.{present-ended, highest-ended, jobs-ended}
 use Rattle.rule.proofs.NoRegret.Within.{baked-mem}
-use Rattle.claims.proofs.Agreement.Agree.{Agree}
+use Rattle.claims.specs.Calls.{close}
+use Rattle.claims.specs.DayBook.{Day, waiting, through}
+use Rattle.claims.proofs.Agreement.Agree.{Agree, waiting-held}
 
 -- the ticket 0 is named where nothing is baked, and no job has it; else the ticket baked is the name of one job in date
 valid-zero : (s : ℕ) (left : List Job) → valid s left 0 ≡ 0
@@ -59,12 +61,24 @@ staying : (s t : ℕ) (x : Job) → (in-date s x && stays s t x) ≡ (not (eqb (
 unfolding in-date stays
 staying s t x = turned (leb s (x .last)) (ltb s (x .last)) (eqb (x .ticket) t) (λ e. le-leb s (x .last) (omega (arith, ltb-true s (x .last) e)))
 
-module _ {d s : ℕ} {b : Board} {B : Book} {left : List Job} (a : Agree d s b B left) where
+module _ {d s : ℕ} {b : Board} {D : Day} (a : Agree d s b D) where
+  abbrev B : Book
+  B = D .book
+
+  abbrev left : List Job
+  left = D .left
+
+  -- what the board bakes, of the jobs that wait in the book
+  pub same-baked : ticket-of (bakes b) ≡ ticket-of (baked (present B) d (waiting D))
+  unfolding bakes
+  same-baked =
+      ap₂ (λ k A. ticket-of (baked (slot-of b) k A)) (a .depth) (sym (waiting-held a))
+      ∙ ap (λ k. ticket-of (baked k d (waiting D))) (a .slot ∙ sym (a .book-slot))
+
   -- our rule's choice is the ticket of the board's answer
   pub choice : (c : Beginning) (past : List Change) → our-choice d c past s left ≡ ticket-of (bakes b)
-  unfolding our-choice bakes
-  choice c past =
-      ap₂ (λ A k. ticket-of (baked s k A)) (sym (a .on-board)) (sym (a .depth)) ∙ ap (λ k. ticket-of (baked k (b .depth) (held b))) (sym (a .slot))
+  unfolding our-choice waiting
+  choice c past = ap (λ k. ticket-of (baked k d (select (in-date k) left))) (sym (a .book-slot)) ∙ sym same-baked
 
   pub named-valid : valid s left (ticket-of (bakes b)) ≡ ticket-of (bakes b)
   unfolding ticket-of bakes
@@ -96,8 +110,8 @@ module _ {d s : ℕ} {b : Board} {B : Book} {left : List Job} (a : Agree d s b B
   none-drawn : (r : Job) → List·Memᴰ r (jobs (extend B end-slot)) → r .admitted ≤ s
   none-drawn r m = a .begun r (subst (List·Memᴰ r) (jobs-ended B) m)
 
-  pub agree-closed : (lent : ℕ) → close-number b lent ≡ 0 → Agree d (suc s) (moved-on-with b (ticket-of (bakes b))) (extend B end-slot) (without (ticket-of (bakes b)) left)
-  unfolding moved-on-with thinned without
+  pub agree-closed : (lent : ℕ) → close-number b lent ≡ 0 → Agree d (suc s) (moved-on-with b (ticket-of (bakes b))) (through d D (close lent))
+  unfolding moved-on-with thinned through
   agree-closed lent e =
       record {
         is-sound = moved-on-sound b (ticket-of (bakes b)) (a .is-sound) (close-going b lent (a .is-sound) e);
@@ -107,5 +121,5 @@ module _ {d s : ℕ} {b : Board} {B : Book} {left : List Job} (a : Agree d s b B
         same-highest = highest-ended B ∙ a .same-highest;
         same-intake = omega (arith, none-yet (jobs (extend B end-slot)) none-drawn, none-yet (held (moved-on-with b (ticket-of (bakes b)))) none-held);
         begun = λ r m. omega (arith, none-drawn r m);
-        on-board = new-held;
+        on-board = new-held ∙ ap (λ t. select (in-date (suc s)) (without t left)) same-baked;
       }

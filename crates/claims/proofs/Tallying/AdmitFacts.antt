@@ -15,7 +15,7 @@ use Rattle.board.specs.Held.{slot-of, held, in-slot}
 use Rattle.board.specs.Sound.{sound}
 use Rattle.board.specs.Admit.{admit-number, with-job, admitted-if, admitted}
 use Rattle.board.specs.Rows.{unless-refused}
-use Rattle.board.specs.Events.{admitted-kind, baked-kind, given-up-kind, event, admit-events}
+use Rattle.board.specs.Events.{admitted-kind, baked-kind, given-up-kind, withdrawn-kind, event, admit-events}
 use Rattle.board.proofs.Soundness.Facts.{SoundFacts, admitted-in}
 use Rattle.board.proofs.Soundness.Apart.{facts}
 use Rattle.board.proofs.Soundness.FreePlace.{room}
@@ -58,7 +58,7 @@ module _ (b : Board) (t w g : ℕ) (s : sound b ≡ true) (e : admit-number b t 
   less = omega (arith, one-more-now, rows .room, rows .going, known .to-last)
 
   taken : Leads b (event admitted-kind g ∷ []) (with-job b t w g)
-  unfolding how-many one-if admitted-kind baked-kind given-up-kind
+  unfolding how-many one-if admitted-kind baked-kind given-up-kind withdrawn-kind
   taken =
       record {
         is-sound = with-job-sound b t w g s e;

@@ -20,7 +20,7 @@ use Rattle.board.specs.Sound.{sound}
 use Rattle.board.specs.Close.{close-number, bakes, given-up, moved-on-with, closed-with, closed-if, closed}
 use Rattle.board.specs.Tally.{tally-grades}
 use Rattle.board.specs.Rows.{unless-refused}
-use Rattle.board.specs.Events.{admitted-kind, baked-kind, given-up-kind, Event, event, baked-events, given-up-events, close-events}
+use Rattle.board.specs.Events.{admitted-kind, baked-kind, given-up-kind, withdrawn-kind, Event, event, baked-events, given-up-events, close-events}
 use Rattle.lists.proofs.Spread.{sharing}
 use Rattle.board.proofs.Soundness.Facts.{SoundFacts}
 use Rattle.board.proofs.Soundness.Apart.{facts}
@@ -61,14 +61,18 @@ module _ (b : Board) (s : sound b ≡ true) where
       → (times admitted-kind g (job-events o) ≡ 0)
       × (times baked-kind g (job-events o) ≡ how-many (λ (r : Job). eqb (r .ticket) (ticket-of (bakes b)) && eqb (r .grade) g) (held b))
       × (times given-up-kind g (job-events o) ≡ 0)
-  unfolding job-events how-many one-if admitted-kind baked-kind given-up-kind
-  baked-times g none e = (refl, sym (none-baked b known g e), refl)
-  baked-times g (some q) e = (omega arith, omega (arith, one-baked b known g q e), omega arith)
+      × (times withdrawn-kind g (job-events o) ≡ 0)
+  unfolding job-events how-many one-if admitted-kind baked-kind given-up-kind withdrawn-kind
+  baked-times g none e = (refl, sym (none-baked b known g e), refl, refl)
+  baked-times g (some q) e = (omega arith, omega (arith, one-baked b known g q e), omega arith, omega arith)
 
   gone-times : (g : ℕ)
-      → (times admitted-kind g gone ≡ 0) × (times baked-kind g gone ≡ 0) × (times given-up-kind g gone ≡ how-many (λ (r : Job). eqb (r .grade) g) (given-up b))
-  unfolding given-up-events admitted-kind baked-kind given-up-kind
-  gone-times g = (counted-as admitted-kind ∙ none, counted-as baked-kind ∙ none, counted-as given-up-kind)
+      → (times admitted-kind g gone ≡ 0)
+      × (times baked-kind g gone ≡ 0)
+      × (times given-up-kind g gone ≡ how-many (λ (r : Job). eqb (r .grade) g) (given-up b))
+      × (times withdrawn-kind g gone ≡ 0)
+  unfolding given-up-events admitted-kind baked-kind given-up-kind withdrawn-kind
+  gone-times g = (counted-as admitted-kind ∙ none, counted-as baked-kind ∙ none, counted-as given-up-kind, counted-as withdrawn-kind ∙ none)
     where
       counted-as : (k : ℕ) → times k g (given-up-events (given-up b)) ≡ how-many (λ (r : Job). eqb given-up-kind k && eqb (r .grade) g) (given-up b)
       counted-as k = count-map _ (λ (e : Event). eqb (e .kind) k && eqb (e .grade) g) (given-up b)
@@ -79,11 +83,28 @@ module _ (b : Board) (s : sound b ≡ true) where
   both : (k g : ℕ) → times k g events ≡ times k g (job-events (bakes b)) + times k g gone
   both k g = count-append (λ (e : Event). eqb (e .kind) k && eqb (e .grade) g) (job-events (bakes b)) gone
 
-  in-balance : (g : ℕ) → times admitted-kind g events + on-board g b ≡ times baked-kind g events + times given-up-kind g events + on-board g (moved-on-with b (ticket-of (bakes b)))
+  in-balance : (g : ℕ)
+      → times admitted-kind g events + on-board g b
+      ≡ times baked-kind g events + times given-up-kind g events + times withdrawn-kind g events + on-board g (moved-on-with b (ticket-of (bakes b)))
   in-balance g =
       let t = baked-times g (bakes b) refl in
       let u = gone-times g in
-      omega (arith, both admitted-kind g, both baked-kind g, both given-up-kind g, t .0, t .1, t .2, u .0, u .1, u .2, fates b known g)
+      omega (
+        arith,
+        both admitted-kind g,
+        both baked-kind g,
+        both given-up-kind g,
+        both withdrawn-kind g,
+        t .0,
+        t .1,
+        t .2,
+        t .3,
+        u .0,
+        u .1,
+        u .2,
+        u .3,
+        fates b known g,
+      )
 
   none-admitted : (g : ℕ) → times admitted-kind g events ≡ 0
   none-admitted g = omega (arith, both admitted-kind g, baked-times g (bakes b) refl .0, gone-times g .0)

@@ -1,4 +1,4 @@
--- The balance of the tally over a run: no event is refused, and for each grade what was admitted was baked, given up or is on the board.
+-- The balance of the tally over a run: no event is refused, and for each grade what was admitted was baked, given up, withdrawn or is on the board.
 use mathlib.Core.Path.{_≡_, ap}
 use mathlib.Core.Bool.{true}
 use mathlib.Core.List.{List, [], _∷_}
@@ -11,18 +11,19 @@ use Rattle.rule.specs.Job.{Job}
 use Rattle.board.specs.declared.Board.{Board}
 use Rattle.board.specs.Sound.{sound}
 use Rattle.board.specs.Tally.{tally-kinds, tally-grades, tally-most, zero-tally, count-at}
-use Rattle.board.specs.Events.{admitted-kind, baked-kind, given-up-kind, Event, fed}
+use Rattle.board.specs.Events.{admitted-kind, baked-kind, given-up-kind, withdrawn-kind, Event, fed}
 use Rattle.board.proofs.Soundness.Facts.{SoundFacts}
 use Rattle.board.proofs.Soundness.HeldCount.{no-jobs}
 use Rattle.board.proofs.Soundness.Apart.{facts}
 use Rattle.board.proofs.Tallies.CountAt.{Cell, zero-count}
-use Rattle.board.proofs.Tallies.Kinds.{each-kind, admitted-cell, baked-cell, given-up-cell}
+use Rattle.board.proofs.Tallies.Kinds.{each-kind, admitted-cell, baked-cell, given-up-cell, withdrawn-cell}
 use Rattle.board.proofs.Tallies.FedCounts.{times, FedFacts, fed-facts}
-use Rattle.claims.specs.Calls.{Call, admit, close, board-after}
+use Rattle.claims.specs.Calls.{Call, admit, close, withdraw, board-after}
 use Rattle.claims.specs.Balance.{events-of, board-after-all, all-events, tally-after-all, on-board, Balance}
 use Rattle.claims.proofs.Tallying.RunFacts.{still, Leads, leads-nowhere, leads-on}
 use Rattle.claims.proofs.Tallying.AdmitFacts.{admit-leads}
 use Rattle.claims.proofs.Tallying.CloseFacts.{close-leads}
+use Rattle.claims.proofs.Tallying.WithdrawFacts.{withdraw-leads}
 
 -- no more jobs than a count may have can be admitted in a run
 at-most : (b : Board) → SoundFacts b → still b ≤ tally-most
@@ -40,6 +41,7 @@ module _ {b c : Board} {es : List Event} (s : sound b ≡ true) (empty : b .coun
       each-kind (λ n. times n g es ≤ tally-most)
       (omega (arith, run .intake g, at-most b (facts b s)))
       (omega (arith, run .intake g, run .balance g, none-yet b empty g, at-most b (facts b s)))
+      (omega (arith, run .intake g, run .balance g, none-yet b empty g, at-most b (facts b s)))
       (omega (arith, run .intake g, run .balance g, none-yet b empty g, at-most b (facts b s))) k g
 
   pub fed-run : FedFacts zero-tally es
@@ -53,6 +55,7 @@ call-leads : (b : Board) (c : Call) → sound b ≡ true → Leads b (events-of 
 unfolding events-of board-after
 call-leads b (admit t w g) s = admit-leads b t w g s
 call-leads b (close lent) s = close-leads b lent s
+call-leads b (withdraw t) s = withdraw-leads b t s
 
 run-leads : (b : Board) (cs : List Call) → sound b ≡ true → Leads b (all-events b cs) (board-after-all b cs)
 unfolding all-events board-after-all
@@ -75,5 +78,6 @@ balance b s empty cs =
             fed-at s empty run admitted-kind g (admitted-cell h),
             fed-at s empty run baked-kind g (baked-cell h),
             fed-at s empty run given-up-kind g (given-up-cell h),
+            fed-at s empty run withdrawn-kind g (withdrawn-cell h),
           );
     }

@@ -12,7 +12,7 @@ use Rattle.board.specs.declared.Board.{Board}
 use Rattle.board.specs.Limits.{most-in-slot, last-slot}
 use Rattle.board.specs.Held.{slot-of, in-slot}
 use Rattle.board.specs.Sound.{sound}
-use Rattle.board.specs.Events.{admitted-kind, baked-kind, given-up-kind, Event}
+use Rattle.board.specs.Events.{admitted-kind, baked-kind, given-up-kind, withdrawn-kind, Event}
 use Rattle.board.proofs.Tallies.CountAt.{Cell}
 use Rattle.board.proofs.Tallies.FedCounts.{times}
 use Rattle.claims.specs.Balance.{on-board}
@@ -25,7 +25,7 @@ still b = most-in-slot * (suc last-slot - slot-of b) - in-slot b
 pub record Leads (b : Board) (es : List Event) (c : Board) : Type 0 where
   pub is-sound : sound c ≡ true
   pub cells : (e : Event) → List·Memᴰ e es → Cell (e .kind) (e .grade)
-  pub balance : (g : ℕ) → times admitted-kind g es + on-board g b ≡ times baked-kind g es + times given-up-kind g es + on-board g c
+  pub balance : (g : ℕ) → times admitted-kind g es + on-board g b ≡ times baked-kind g es + times given-up-kind g es + times withdrawn-kind g es + on-board g c
   pub intake : (g : ℕ) → times admitted-kind g es + still c ≤ still b
 
 pub leads-nowhere : (b : Board) → sound b ≡ true → Leads b [] b
@@ -43,7 +43,7 @@ leads-on {es = es} {fs = fs} h k =
     record {
       is-sound = k .is-sound;
       cells = λ e m. go e (List·Memᴰ·append-cases es m);
-      balance = λ g. omega (arith, h .balance g, k .balance g, joined admitted-kind g, joined baked-kind g, joined given-up-kind g);
+      balance = λ g. omega (arith, h .balance g, k .balance g, joined admitted-kind g, joined baked-kind g, joined given-up-kind g, joined withdrawn-kind g);
       intake = λ g. omega (arith, h .intake g, k .intake g, joined admitted-kind g);
     }
   where

@@ -16,14 +16,16 @@ use Rattle.board.specs.Open.{opened}
 use Rattle.board.specs.Admit.{admitted}
 use Rattle.board.specs.Close.{closed}
 use Rattle.board.specs.Promise.{promised}
+use Rattle.board.specs.Withdraw.{withdrawn}
 use Rattle.board.specs.Tally.{zero-tally}
 use Rattle.board.specs.Events.{Event, event-numbers, all-taken, fed}
 use Rattle.claims.proofs.Tallying.AdmitFacts.{admit-leads}
 use Rattle.claims.proofs.Tallying.CloseFacts.{close-leads}
-use Rattle.lines.specs.Session.{Step, step-refused, step-open, step-admit, step-close, step-promise}
+use Rattle.claims.proofs.Tallying.WithdrawFacts.{withdraw-leads}
+use Rattle.lines.specs.Session.{Step, step-refused, step-open, step-admit, step-close, step-promise, step-withdraw}
 use Rattle.lines.specs.NeverMet.{number-of, step-numbers}
 use Rattle.lines.proofs.NeverMet.Between.{Reached, InRun, reached-opened, reached-taken, reached-on}
-use Rattle.lines.proofs.NeverMet.MayMeet.{may-meet, opened-shallow, may-open, may-admit, may-close, may-promise}
+use Rattle.lines.proofs.NeverMet.MayMeet.{may-meet, opened-shallow, may-open, may-admit, may-close, may-promise, may-withdraw}
 
 -- the numbers met at a step may be met, and what holds between two lines holds after it
 pub record Goes (y : Tally) (a : Step) : Type 0 where
@@ -74,3 +76,10 @@ module _ (b : Board) (y : Tally) (r : Reached b y) where
   goes-promise =
       either y (promised b .refusal) _ _ (λ e. record { met = refl; after = r })
       (goes-refused (some b) y (promised b .refusal) r (may-promise b (r .leads .is-sound)))
+
+  pub goes-withdraw : (t : ℕ) → Goes y (step-withdraw b t)
+  unfolding step-withdraw step-numbers number-of InRun
+  goes-withdraw t =
+      let l = withdraw-leads b t (r .leads .is-sound) in
+      either y (withdrawn b t .refusal) _ _ (λ e. record { met = taken-met y _ (reached-taken r l); after = reached-on r l })
+      (goes-refused (some b) y (withdrawn b t .refusal) r (may-withdraw b t (r .leads .is-sound)))

@@ -12,15 +12,16 @@ use Rattle.lists.specs.Select.{every}
 use Rattle.lists.proofs.Tests.{never, and-left, and-right, or-cases}
 use Rattle.board.specs.declared.Board.{Board}
 use Rattle.board.specs.Limits.{places-held, deepest}
-use Rattle.board.specs.Rows.{Row, _if_, first-given, admit-rows, close-rows, promise-rows}
-use Rattle.board.specs.Held.{slot-of, in-slot}
+use Rattle.board.specs.Rows.{Row, _if_, first-given, admit-rows, close-rows, promise-rows, withdraw-rows}
+use Rattle.board.specs.Held.{slot-of, held, in-slot}
 use Rattle.board.specs.Sound.{sound}
 use Rattle.board.specs.Open.{opened-if, opened}
 use Rattle.board.specs.Admit.{admit-number, admitted-if, admitted}
 use Rattle.board.specs.Close.{close-number, closed-with, closed-if, closed}
 use Rattle.board.specs.Promise.{promise-number, promise-of, promised}
+use Rattle.board.specs.Withdraw.{withdraw-number, withdrawn-if, withdrawn}
 use Rattle.board.proofs.Calls.Rows.{row-passed}
-use Rattle.board.proofs.Calls.SoundAfter.{admit-number-sound, close-number-sound}
+use Rattle.board.proofs.Calls.SoundAfter.{admit-number-sound, close-number-sound, withdraw-number-sound}
 use Rattle.board.proofs.Calls.Promise.{promise-number-sound, promised-refusal}
 use Rattle.lines.specs.Bytes.{Bytes}
 use Rattle.lines.specs.Reading.{Form, form-of, too-long, form-rows, line-rows, line-number}
@@ -69,6 +70,14 @@ closed-number b lent = go (close-number b lent)
     go zero = refl
     go (suc n) = refl
 
+pub withdrawn-number : (b : Board) (t : ℕ) → withdrawn b t .refusal ≡ withdraw-number b t
+unfolding withdrawn withdrawn-if
+withdrawn-number b t = go (withdraw-number b t)
+  where
+    go : (n : ℕ) → withdrawn-if n b t .refusal ≡ n
+    go zero = refl
+    go (suc n) = refl
+
 -- an opening that is not refused is of a depth that a board may have
 pub opened-shallow : (d : ℕ) → opened d .refusal ≡ 0 → d ≤ deepest
 opened-shallow d e = ltb-false deepest d (row-passed 0 (ltb deepest d) [] (sym (opened-number d) ∙ e) .0)
@@ -95,6 +104,12 @@ unfolding promised every _if_ promise-rows
 may-promise b s =
     ap may-meet (promised-refusal (promise-number b) (promise-of b) ∙ promise-number-sound b s)
     ∙ first-passes may-meet refl (promise-rows (slot-of b)) refl
+
+pub may-withdraw : (b : Board) (t : ℕ) → sound b ≡ true → may-meet (withdrawn b t .refusal) ≡ true
+unfolding every _if_ withdraw-rows
+may-withdraw b t s =
+    ap may-meet (withdrawn-number b t ∙ withdraw-number-sound b t s)
+    ∙ first-passes may-meet refl (withdraw-rows (slot-of b) (held b) t) refl
 
 -- rows 11 to 15 give no number below 11
 abbrev none-or-11 : ℕ → Bool

@@ -8,12 +8,12 @@ use Rattle.board.specs.declared.Board.{Board}
 use Rattle.board.specs.declared.Laxity.{Laxity}
 use Rattle.lines.specs.Bytes.{Bytes}
 use Rattle.lines.specs.Fields.{grade-meant}
-use Rattle.lines.specs.Reading.{line-number, Request, open-board, admit-job, close-slot, ask-promise}
-use Rattle.lines.specs.Session.{is-open, step-refused, step-open, step-admit, step-close, step-promise, when-open, step-request, step-if, step}
+use Rattle.lines.specs.Reading.{line-number, Request, open-board, admit-job, close-slot, ask-promise, withdraw-job}
+use Rattle.lines.specs.Session.{is-open, step-refused, step-open, step-admit, step-close, step-promise, step-withdraw, when-open, step-request, step-if, step}
 use Rattle.lines.proofs.InTurn.{needs-open, in-turn}
 use Rattle.fields.specs.declared.grades.Grade.{Grade}
 use Rattle.fields.specs.Grades.{grade-of}
-use Rattle.reading.specs.declared.Asked.the-variants.{Open, Admit, Close, Promise, Refused}
+use Rattle.reading.specs.declared.Asked.the-variants.{Open, Admit, Close, Promise, Withdraw, Refused}
 use Rattle.reading.specs.Answers.{asked-result, line-result}
 use Rattle.reading.proofs.Says.{refused-says, asked-says}
 use Rattle.program.specs.declared.session.Day.{Day}
@@ -43,6 +43,10 @@ module _ (o : Bool) (l : Bytes) where
   pub open-for-promise : asked-result Promise ≡ line-result o l → o ≡ true
   unfolding asked-result needs-open
   open-for-promise e = open-for ask-promise refl e
+
+  pub open-for-withdraw : (t : ℕ) → asked-result (Withdraw t) ≡ line-result o l → o ≡ true
+  unfolding asked-result needs-open
+  open-for-withdraw t e = open-for (withdraw-job t) refl e
 
 module _ (d : Day) (l : Bytes) where
   day-opened : is-open (session-of d .board) ≡ d .opened
@@ -87,3 +91,7 @@ module _ (d : Day) (l : Bytes) where
   pub line-promises : asked-result Promise ≡ line-result (d .opened) l → step (session-of d .board) l ≡ step-promise (d .board)
   unfolding asked-result step-request when-open
   line-promises e = by-request ask-promise e ∙ ap (λ o. step-request o ask-promise) (day-board d (open-for-promise (d .opened) l e))
+
+  pub line-withdraws : (t : ℕ) → asked-result (Withdraw t) ≡ line-result (d .opened) l → step (session-of d .board) l ≡ step-withdraw (d .board) t
+  unfolding asked-result step-request when-open
+  line-withdraws t e = by-request (withdraw-job t) e ∙ ap (λ o. step-request o (withdraw-job t)) (day-board d (open-for-withdraw (d .opened) l t e))

@@ -1,4 +1,4 @@
--- A line refused, a board opened, a job admitted, and what can be promised: the day after it, and the answer.
+-- A line refused, a board opened, a job admitted or withdrawn, and what can be promised: the day after it, and the answer.
 use mathlib.Core.Path.{_≡_, refl, sym, ap, _∙_, subst}
 use mathlib.Core.Bool.{true, cond}
 use mathlib.Core.List.{List, [], _∷_}
@@ -12,17 +12,19 @@ use Rattle.board.specs.declared.Tally.{Tally}
 use Rattle.board.specs.declared.Opened.{Opened}
 use Rattle.board.specs.declared.Admitted.{Admitted}
 use Rattle.board.specs.declared.Promised.{Promised}
+use Rattle.board.specs.declared.Withdrawn.{Withdrawn}
 use Rattle.board.specs.Sound.{sound}
 use Rattle.board.specs.Open.{opened}
 use Rattle.board.specs.Admit.{admitted}
 use Rattle.board.specs.Promise.{promised}
-use Rattle.board.specs.Events.{admitted-kind, event, admit-events, fed}
-use Rattle.board.proofs.Calls.SoundAfter.{admitted-sound}
+use Rattle.board.specs.Withdraw.{withdrawn}
+use Rattle.board.specs.Events.{admitted-kind, withdrawn-kind, event, admit-events, withdraw-events, fed}
+use Rattle.board.proofs.Calls.SoundAfter.{admitted-sound, withdrawn-sound}
 use Rattle.board.proofs.Calls.SoundAfterOpening.{opened-sound}
 use Rattle.board.proofs.Tallies.Fed.{let-through}
-use Rattle.lines.specs.Session.{Session, an-opening, an-admitting, a-promise, Step, step-refused, step-open, step-admit, step-promise, session-after}
+use Rattle.lines.specs.Session.{Session, an-opening, an-admitting, a-promise, a-withdrawal, Step, step-refused, step-open, step-admit, step-promise, step-withdraw, session-after}
 use Rattle.lines.proofs.NeverMet.MayMeet.{opened-shallow}
-use Rattle.answers.specs.declared.Answer.the-variants.{Refused, Opened as BoardOpened, Admitted as JobAdmitted, Promised as WaitPromised}
+use Rattle.answers.specs.declared.Answer.the-variants.{Refused, Opened as BoardOpened, Admitted as JobAdmitted, Promised as WaitPromised, Withdrawn as JobWithdrawn}
 use Rattle.answers.specs.Printed.{answer-of}
 use Rattle.program.specs.declared.session.Day.{Day}
 use Rattle.program.specs.declared.session.Stepped.{Stepped}
@@ -102,3 +104,24 @@ module _ (day : Day) (p : Promised) (e : p ≡ promised (day .board)) (k : day .
       → DidAlone day (step-promise (day .board)) (record { day = day; answer = WaitPromised (p .laxity); listed = 0 })
   unfolding answer-of session-after fed
   promise-did g h T G = did-as (promise-step h) (record { good = g; session = refl; few = omega arith; answer = refl })
+
+module _ (day : Day) (t : ℕ) (w : Withdrawn) (e : w ≡ withdrawn (day .board) t) where
+  pub withdraw-refused : (w .refusal ≡ 0 → ⊥) → day .opened ≡ true → step-withdraw (day .board) t ≡ step-refused (session-of day .board) (w .refusal)
+  unfolding step-withdraw
+  withdraw-refused h k = rw (← e) (cond-false _ _ _ (ne-eqb (w .refusal) 0 h)) ∙ ap (λ o. step-refused o (w .refusal)) (sym (day-board day k))
+
+  withdraw-step : w .refusal ≡ 0
+      → step-withdraw (day .board) t ≡ record { answer = a-withdrawal t; board = some (w .board); events = withdraw-events (day .board) t }
+  unfolding step-withdraw
+  withdraw-step h = rw (← e) (cond-true _ _ _ (eq-eqb (w .refusal) 0 h))
+
+  withdrawn-fed : w .refusal ≡ 0 → fed (day .tally) (withdraw-events (day .board) t) ≡ fed (day .tally) (event withdrawn-kind (w .grade) ∷ [])
+  unfolding withdraw-events
+  withdrawn-fed h = rw (← e) (ap (fed (day .tally)) (let-through (w .refusal) _ h))
+
+  pub withdraw-did : (y : Tally) → sound (day .board) ≡ true → w .refusal ≡ 0 → y ≡ fed (day .tally) (event withdrawn-kind (w .grade) ∷ [])
+      → DidAlone day (step-withdraw (day .board) t) (record { day = open-day (w .board) y; answer = JobWithdrawn t; listed = 0 })
+  unfolding answer-of session-of session-after GoodDay
+  withdraw-did y s h c T G =
+      did-as (withdraw-step h)
+      (record { good = λ _. rw e (withdrawn-sound (day .board) t s); session = ap (open-session (w .board)) (c ∙ sym (withdrawn-fed h)); few = omega arith; answer = refl })

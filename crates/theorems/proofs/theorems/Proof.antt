@@ -11,7 +11,9 @@ use Rattle.board.proofs.Soundness.FreePlace.{free-place}
 use Rattle.board.proofs.Calls.SoundAfterOpening.{opened-sound, opened-count}
 use Rattle.claims.proofs.SoundKept.{sound-kept}
 use Rattle.claims.proofs.Unbeaten.{demand3}
+use Rattle.claims.proofs.Drawing.Alone.{drawn-alone}
 use Rattle.claims.proofs.Tallying.InBalance.{balance}
+use Rattle.claims.proofs.Tallying.WithdrawFacts.{intake-kept}
 use Rattle.claims.proofs.GivenUpInOrder.{given-up-in-order}
 use Rattle.claims.proofs.Shortfall.{board-shortfall}
 use Rattle.claims.proofs.Promise.{board-promise, never-sold-out}
@@ -27,6 +29,7 @@ returns : tie.Need-returns
 returns c =
     record {
       demand3 = demand3;
+      drawn-alone = drawn-alone;
       balance = balance;
       given-up-in-order = given-up-in-order;
       shortfall-fewest = shortfall-fewest;
@@ -44,6 +47,7 @@ returns c =
       worked = worked;
       opening = λ d e. let h = opened-shallow d e in (opened-sound d h, opened-count d h);
       sound-kept = sound-kept;
+      intake-kept = intake-kept;
       free-place = free-place;
       byte-by-byte = byte-by-byte;
       never-met = never-met;

@@ -8,16 +8,19 @@ use Rattle.board.specs.Open.{empty-board, opened-if, opened}
 use Rattle.board.proofs.Board.open.Statement.{statement}
 use Rattle.board.proofs.Board.open.Tie as tie
 
+blank-requires : tie.Need-blank-requires
+blank-requires c κs = search needs
+
 returns : tie.Need-returns
 unfolding opened first-given _if_ opened-if empty-board places-held deepest
-returns c = simp (lt-ltb deepest (c .before .args .depth) (omega arith))
+returns c = simp (lt-ltb deepest (c .before .before .args .depth) (omega arith), c .before .blank .ensures)
 
 cast-board : tie.Need-cast-board
 cast-board c = search needs
 
 returns-2 : tie.Need-returns-2
 unfolding opened first-given _if_ opened-if empty-board places-held deepest
-returns-2 c = simp (le-ltb deepest (c .before .before .args .depth) (omega arith))
+returns-2 c = simp (le-ltb deepest (c .before .before .before .args .depth) (omega arith), c .before .before .blank .ensures)
 
 pub open-spec : {M : Type 1} → statement M
-open-spec = tie.close (tie.spec returns cast-board returns-2)
+open-spec = tie.close (tie.spec blank-requires returns cast-board returns-2)

@@ -3,7 +3,7 @@ use mathlib.Core.Path.{sym, ap, _∙_}
 use borrow.Author.Needs.{needs}
 use Rattle.reading.specs.Answers.{asked-result}
 use Rattle.program.proofs.Stepping.Steps.{did-as}
-use Rattle.program.proofs.Stepping.Requests.{line-refused, line-opens, open-for-admit, line-admits, open-for-close, line-closes, open-for-promise, line-promises}
+use Rattle.program.proofs.Stepping.Requests.{line-refused, line-opens, open-for-admit, line-admits, open-for-close, line-closes, open-for-promise, line-promises, open-for-withdraw, line-withdraws}
 use Rattle.program.proofs.session.step_line.Statement.{statement}
 use Rattle.program.proofs.session.step_line.Tie as tie
 
@@ -47,6 +47,15 @@ promise-line-requires c κs =
 enum-known-asked-3 : tie.Need-enum-known-asked-3
 enum-known-asked-3 c = search needs
 
+withdraw-line-requires : tie.Need-withdraw-line-requires
+withdraw-line-requires c κs =
+    let m = c .before in
+    let r = m .before .before in
+    (r .before .before .before .before .before .pre .0, open-for-withdraw _ _ _ (sym (ap asked-result (m .asked3 .given .1)) ∙ r .read-line .ensures))
+
+enum-known-asked-4 : tie.Need-enum-known-asked-4
+enum-known-asked-4 c = search needs
+
 refuse-requires : tie.Need-refuse-requires
 refuse-requires c κs = search needs
 
@@ -82,7 +91,12 @@ returns-4 c =
 returns-5 : tie.Need-returns-5
 returns-5 c =
     let m = c .before .before in
-    did-as (line-refused _ _ _ (sym (ap asked-result (m .asked3 .given .1)) ∙ m .before .before .read-line .ensures)) (c .refuse .ensures _ _)
+    did-as (line-withdraws _ _ _ (sym (ap asked-result (m .asked3 .given .1)) ∙ m .before .before .read-line .ensures)) (c .withdraw-line .ensures _ _)
+
+returns-6 : tie.Need-returns-6
+returns-6 c =
+    let m = c .before .before in
+    did-as (line-refused _ _ _ (sym (ap asked-result (m .asked4 .given .1)) ∙ m .before .before .read-line .ensures)) (c .refuse .ensures _ _)
 
 pub step-line-spec : {M : Type 1} → statement M
 step-line-spec =
@@ -98,6 +112,8 @@ step-line-spec =
     enum-told-2
     promise-line-requires
     enum-known-asked-3
+    withdraw-line-requires
+    enum-known-asked-4
     refuse-requires
     returns
     returns-2
@@ -106,4 +122,5 @@ step-line-spec =
     same-length-3
     returns-3
     returns-4
-    returns-5)
+    returns-5
+    returns-6)
