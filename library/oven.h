@@ -27,8 +27,8 @@ extern "C" {
 #define OVEN_PLACES 256         /* most racks held; a lent list has at least as many entries */
 #define OVEN_LAST_SLOT 1000000  /* last slot of a book */
 
-/* A tally has a count for each of three kinds of event and each of eight grades. */
-#define OVEN_KINDS 3
+/* A tally has a count for each of four kinds of event and each of eight grades. */
+#define OVEN_KINDS 4
 #define OVEN_GRADES 8
 
 /* A page of the sheet for the oven door: slots on it, and bytes of its text, 50 lines of 24 and a line end each. */
@@ -39,23 +39,25 @@ extern "C" {
 enum oven_refusal {
     OVEN_NOT_REFUSED = 0,
     OVEN_REFUSED_DEPTH = 1,         /* opening: depth above 3; the returned board is all zero */
-    OVEN_REFUSED_UNSOUND = 2,       /* admitting, closing, promising: board not sound */
-    OVEN_REFUSED_BOOK_ENDED = 3,    /* admitting, closing, promising: slot is 1,000,001 */
+    OVEN_REFUSED_UNSOUND = 2,       /* admitting, closing, promising, withdrawing: board not sound */
+    OVEN_REFUSED_BOOK_ENDED = 3,    /* admitting, closing, promising, withdrawing: slot is 1,000,001 */
     OVEN_REFUSED_TICKET = 4,        /* admitting: ticket not above the highest so far */
     OVEN_REFUSED_WAIT = 5,          /* admitting: wait not 1 to 32 */
     OVEN_REFUSED_GRADE = 6,         /* admitting: grade not below 2^D, D the depth */
     OVEN_REFUSED_SLOT_FULL = 7,     /* admitting: eight racks on the board were admitted in this slot */
     OVEN_REFUSED_LIST_SHORT = 8,    /* closing: lent list has fewer than 256 entries */
-    OVEN_REFUSED_NO_SUCH_COUNT = 9, /* tally: kind above 2 or grade above 7 */
+    OVEN_REFUSED_NO_SUCH_COUNT = 9, /* tally: kind above 3 or grade above 7 */
     OVEN_REFUSED_COUNT_FULL = 10,   /* tally: that count is already 8,000,000 */
-    OVEN_REFUSED_OFF_SHEET = 16     /* sheet: slot above 1,000,000, grade above 7 or more than 255 given up */
+    OVEN_REFUSED_OFF_SHEET = 16,    /* sheet: slot above 1,000,000, grade above 7 or more than 255 given up */
+    OVEN_REFUSED_NOT_WAITING = 17   /* withdrawing: ticket not on the board, or admitted in this slot */
 };
 
 /* The kinds of event that a tally counts. */
 enum oven_kind {
     OVEN_KIND_ADMITTED = 0,
     OVEN_KIND_BAKED = 1,
-    OVEN_KIND_GIVEN_UP = 2
+    OVEN_KIND_GIVEN_UP = 2,
+    OVEN_KIND_WITHDRAWN = 3
 };
 
 /* A number of slots counted from the present one. It cannot be compared with a slot's number. */
@@ -137,6 +139,12 @@ typedef struct oven_promised {
     oven_wait wait; /* the least that can be promised, 1 to 32; 0 for none */
 } oven_promised;
 
+typedef struct oven_withdrawn {
+    uint8_t refusal;
+    uint8_t grade; /* of the rack taken off, for the tally */
+    oven_board board;
+} oven_withdrawn;
+
 typedef struct oven_counted {
     uint8_t refusal;
     oven_tally tally;
@@ -149,7 +157,7 @@ typedef struct oven_handed_over {
 
 /*
  * The calls. OVEN_STACK_.. is the stack, in bytes, that suffices for a call: its own, and the board, tally or page that it is given
- * and answers by value. Where it copies boards or pages it has room for the system's loader too, which may bind memcpy or memset at
+ * and answers by value. Where it copies them it has room for the system's loader too, which may bind memcpy or memset at
  * the first call.
  */
 
@@ -157,7 +165,9 @@ typedef struct oven_handed_over {
 #define OVEN_STACK_OPEN 12288
 oven_opened oven_open(uint32_t depth);
 
-/* Whether a board is sound. A board that comes back from opening, admitting or closing is, unless the number is 1 or 2. */
+/*
+ * Whether a board is sound. A board that comes back from opening, admitting, closing or withdrawing is, unless the number is 1 or 2.
+ */
 #define OVEN_STACK_SOUND 12288
 bool oven_sound(oven_board board);
 
@@ -194,6 +204,13 @@ oven_closed oven_close(oven_board board, uint32_t *tickets, size_t tickets_lengt
 #define OVEN_STACK_PROMISE 16384
 oven_promised oven_promise(oven_board board);
 
+/*
+ * Withdraws a rack that is waiting since an earlier slot: takes it off the board and answers its grade. Slot and highest ticket stay,
+ * so the ticket is not admitted again. Refuses with 2, 3 or 17; the board then comes back as it was.
+ */
+#define OVEN_STACK_WITHDRAW 32768
+oven_withdrawn oven_withdraw(oven_board board, uint32_t ticket);
+
 /* A tally with every count 0. */
 #define OVEN_STACK_ZERO 256
 oven_tally oven_zero(void);
@@ -203,7 +220,7 @@ oven_tally oven_zero(void);
 uint8_t oven_note(oven_tally *tally, uint32_t kind, uint32_t grade);
 
 /* The same with the tally by value: the answer has the tally after the event. */
-#define OVEN_STACK_COUNT 1024
+#define OVEN_STACK_COUNT 5120
 oven_counted oven_count(oven_tally tally, uint32_t kind, uint32_t grade);
 
 /* A page without closings. */

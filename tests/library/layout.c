@@ -57,6 +57,10 @@ static void answers(void) {
     STRUCT(oven_promised);
     FIELD(oven_promised, refusal);
     FIELD(oven_promised, wait);
+    STRUCT(oven_withdrawn);
+    FIELD(oven_withdrawn, refusal);
+    FIELD(oven_withdrawn, grade);
+    FIELD(oven_withdrawn, board);
     STRUCT(oven_counted);
     FIELD(oven_counted, refusal);
     FIELD(oven_counted, tally);
@@ -85,9 +89,11 @@ static void numbers(void) {
     NUMBER(OVEN_REFUSED_NO_SUCH_COUNT);
     NUMBER(OVEN_REFUSED_COUNT_FULL);
     NUMBER(OVEN_REFUSED_OFF_SHEET);
+    NUMBER(OVEN_REFUSED_NOT_WAITING);
     NUMBER(OVEN_KIND_ADMITTED);
     NUMBER(OVEN_KIND_BAKED);
     NUMBER(OVEN_KIND_GIVEN_UP);
+    NUMBER(OVEN_KIND_WITHDRAWN);
 }
 
 int main(void) {

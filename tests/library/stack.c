@@ -33,6 +33,10 @@ static void try_board(uint32_t depth, uint32_t held, bool due) {
     try_close(board, OVEN_PLACES - 1, OVEN_REFUSED_LIST_SHORT);
     try_close(board, OVEN_PLACES, OVEN_NOT_REFUSED);
     try_promise(board, OVEN_NOT_REFUSED);
+    /* the first rack was admitted in an earlier slot where there are more than a slot takes, the last one in this */
+    try_withdraw(board, 1, held > OVEN_MOST_IN_SLOT ? OVEN_NOT_REFUSED : OVEN_REFUSED_NOT_WAITING);
+    try_withdraw(board, held, OVEN_REFUSED_NOT_WAITING);
+    try_withdraw(board, ticket, OVEN_REFUSED_NOT_WAITING);
 }
 
 static void try_depth(uint32_t depth) {
@@ -50,6 +54,7 @@ static void try_unsound(void) {
     try_admit(board, OVEN_PLACES + 1, 1, 0, OVEN_REFUSED_UNSOUND);
     try_close(board, OVEN_PLACES, OVEN_REFUSED_UNSOUND);
     try_promise(board, OVEN_REFUSED_UNSOUND);
+    try_withdraw(board, 1, OVEN_REFUSED_UNSOUND);
 }
 
 static void try_ended(void) {
@@ -60,10 +65,11 @@ static void try_ended(void) {
     try_admit(board, 1, 1, 0, OVEN_REFUSED_BOOK_ENDED);
     try_close(board, OVEN_PLACES, OVEN_REFUSED_BOOK_ENDED);
     try_promise(board, OVEN_REFUSED_BOOK_ENDED);
+    try_withdraw(board, 1, OVEN_REFUSED_BOOK_ENDED);
 }
 
 static void try_tally(void) {
-    try_count(OVEN_KIND_GIVEN_UP, OVEN_GRADES - 1, 0, OVEN_NOT_REFUSED);
+    try_count(OVEN_KIND_WITHDRAWN, OVEN_GRADES - 1, 0, OVEN_NOT_REFUSED);
     try_count(OVEN_KINDS, 0, 0, OVEN_REFUSED_NO_SUCH_COUNT);
     try_count(OVEN_KIND_BAKED, OVEN_GRADES, 0, OVEN_REFUSED_NO_SUCH_COUNT);
     try_count(OVEN_KIND_ADMITTED, 0, 8000000, OVEN_REFUSED_COUNT_FULL);

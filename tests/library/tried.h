@@ -25,6 +25,7 @@ static struct {
     oven_admitted admitted;
     oven_closed closed;
     oven_promised promised;
+    oven_withdrawn withdrawn;
     oven_counted counted;
     oven_tally tally;
     oven_page page;
@@ -45,6 +46,7 @@ static void close_parts(void) {
     answer.closed = oven_close(given.board, tickets, given.length, grades, given.length, slots, given.length);
 }
 static void promise(void) { answer.promised = oven_promise(given.board); }
+static void withdraw(void) { answer.withdrawn = oven_withdraw(given.board, given.ticket); }
 static void zero(void) { answer.tally = oven_zero(); }
 static void note(void) { answer.number = oven_note(&given.tally, given.kind, given.grade); }
 static void count(void) { answer.counted = oven_count(given.tally, given.kind, given.grade); }
@@ -54,7 +56,7 @@ static void page_full(void) { answer.full = oven_page_full(given.page); }
 static void page_print(void) { answer.printed = oven_page_print(given.page, text, given.length); }
 
 /* The calls, with the header's figure and the most that was seen. */
-enum call { OPEN, SOUND, ADMIT, CLOSE_INTO, CLOSE, PROMISE, ZERO, NOTE, COUNT, PAGE_NEW, PAGE_HAND_OVER, PAGE_FULL, PAGE_PRINT, CALLS };
+enum call { OPEN, SOUND, ADMIT, CLOSE_INTO, CLOSE, PROMISE, WITHDRAW, ZERO, NOTE, COUNT, PAGE_NEW, PAGE_HAND_OVER, PAGE_FULL, PAGE_PRINT, CALLS };
 
 static struct {
     const char *name;
@@ -67,6 +69,7 @@ static struct {
     {"oven_close_into", close_into, OVEN_STACK_CLOSE_INTO, 0},
     {"oven_close", close_parts, OVEN_STACK_CLOSE, 0},
     {"oven_promise", promise, OVEN_STACK_PROMISE, 0},
+    {"oven_withdraw", withdraw, OVEN_STACK_WITHDRAW, 0},
     {"oven_zero", zero, OVEN_STACK_ZERO, 0},
     {"oven_note", note, OVEN_STACK_NOTE, 0},
     {"oven_count", count, OVEN_STACK_COUNT, 0},
@@ -135,6 +138,13 @@ static void try_promise(oven_board board, uint8_t number) {
     measure(PROMISE);
     expect(answer.promised.refusal == number, PROMISE, "another number");
     expect(answer.promised.wait.slots <= (number ? 0 : OVEN_LONGEST_WAIT), PROMISE, "no such wait");
+}
+
+static void try_withdraw(oven_board board, uint32_t ticket, uint8_t number) {
+    given.board = board;
+    given.ticket = ticket;
+    measure(WITHDRAW);
+    expect(answer.withdrawn.refusal == number, WITHDRAW, "another number");
 }
 
 static void try_count(uint32_t kind, uint32_t grade, uint32_t before, uint8_t number) {

@@ -68,7 +68,7 @@ pub record Theorems : Type 0 where
   -- every call keeps a sound board sound
   pub sound-kept : (b : Board) (c : Call) → sound b ≡ true → sound (board-after b c) ≡ true
   -- a withdrawal takes no job of the present slot: row 7 counts what it did
-  pub intake-kept : (b : Board) (t : ℕ) → sound b ≡ true → in-slot (withdrawn b t .board) ≡ in-slot b
+  pub intake-kept : (b : Board) (t : ℕ) → in-slot (withdrawn b t .board) ≡ in-slot b
   -- a sound board with fewer than eight jobs of its slot has a free place
   pub free-place : (b : Board) → sound b ≡ true → in-slot b < most-in-slot → b .count < places-held
   -- each program prints its whole output byte by byte, as it reads

@@ -1,7 +1,7 @@
-//! The board: slots and waits, racks, opening, admitting, closing, promising.
+//! The board: slots and waits, racks, opening, admitting, closing, promising, withdrawing.
 
 use crate::calls;
-use crate::refusal::{AdmitRefusal, CloseRefusal, OpenRefusal, PromiseRefusal};
+use crate::refusal::{AdmitRefusal, CloseRefusal, OpenRefusal, PromiseRefusal, WithdrawRefusal};
 
 /// A number of slots counted from the present one. It is not compared with a [`Slot`].
 #[repr(C)]
@@ -94,7 +94,7 @@ impl Board {
         OpenRefusal::from_number(answer.refusal).map(|()| answer.board)
     }
 
-    /// Whether the board is sound. What opening, admitting and closing leave behind is.
+    /// Whether the board is sound. What opening, admitting, closing and withdrawing leave behind is.
     pub fn is_sound(&self) -> bool {
         calls::sound(*self)
     }
@@ -127,5 +127,13 @@ impl Board {
         let answer = calls::promise(*self);
         PromiseRefusal::from_number(answer.refusal)
             .map(|()| (answer.wait != Wait(0)).then_some(answer.wait))
+    }
+
+    /// Withdraws a rack that is waiting since an earlier slot: takes it off the board; the answer is its grade. Its ticket is not admitted
+    /// again. A refusal leaves the board as it was.
+    pub fn withdraw(&mut self, ticket: u32) -> Result<u8, WithdrawRefusal> {
+        let answer = calls::withdraw(*self, ticket);
+        *self = answer.board;
+        WithdrawRefusal::from_number(answer.refusal).map(|()| answer.grade)
     }
 }

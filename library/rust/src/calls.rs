@@ -2,7 +2,8 @@
 
 use crate::{Board, Page, Slot, Tally, Wait};
 
-pub use crate::declared::{admit, close, close_into, count, note, open, promise, sound, zero};
+pub use crate::declared::{admit, close, close_into, open, promise, sound, withdraw};
+pub use crate::declared::{count, note, zero};
 pub use crate::declared::{page_full, page_hand_over, page_new, page_print};
 
 /// What opening answers.
@@ -53,6 +54,18 @@ pub struct PromiseAnswer {
     pub refusal: u8,
     /// The least wait that can be promised; 0 for none, and after a refusal.
     pub wait: Wait,
+}
+
+/// What withdrawing answers.
+#[repr(C)]
+#[derive(Clone, Copy, Debug, PartialEq, Eq)]
+pub struct WithdrawAnswer {
+    /// The number of a refusal, or 0.
+    pub refusal: u8,
+    /// The grade of the rack taken off; 0 after a refusal.
+    pub grade: u8,
+    /// The board that came back.
+    pub board: Board,
 }
 
 /// What a tally answers to an event.

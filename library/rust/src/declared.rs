@@ -6,6 +6,7 @@
 
 use crate::calls::{
     AdmitAnswer, CloseAnswer, CountAnswer, HandOverAnswer, OpenAnswer, PromiseAnswer,
+    WithdrawAnswer,
 };
 use crate::{Board, Entry, Figures, Page, Slot, Tally, Wait};
 
@@ -24,6 +25,7 @@ extern "C" {
         slots_length: usize,
     ) -> CloseAnswer;
     fn oven_promise(board: Board) -> PromiseAnswer;
+    fn oven_withdraw(board: Board, ticket: u32) -> WithdrawAnswer;
     fn oven_zero() -> Tally;
     fn oven_note(tally: *mut Tally, kind: u32, grade: u32) -> u8;
     fn oven_count(tally: Tally, kind: u32, grade: u32) -> CountAnswer;
@@ -71,6 +73,11 @@ pub fn close(
 /// The least wait that can be promised, 0 for none. Refuses with 2 or 3.
 pub fn promise(board: Board) -> PromiseAnswer {
     unsafe { oven_promise(board) }
+}
+
+/// Withdraws a rack. Refuses with 2, 3 or 17.
+pub fn withdraw(board: Board, ticket: u32) -> WithdrawAnswer {
+    unsafe { oven_withdraw(board, ticket) }
 }
 
 /// A tally with every count 0.

@@ -22,6 +22,9 @@
 //! tally.count(Kind::Baked, 0)?;
 //! tally.count(Kind::GivenUp, 1)?;
 //! assert_eq!(board.promise()?, Some(Wait(2)));
+//! assert_eq!(board.withdraw(2)?, 1);
+//! tally.count(Kind::Withdrawn, 1)?;
+//! assert_eq!(board.promise()?, Some(Wait(1)));
 //! # Ok::<(), Box<dyn std::error::Error>>(())
 //! ```
 //!
@@ -39,6 +42,7 @@ mod tally;
 pub use board::{Baked, Board, Closed, Entry, Place, Slot, Wait};
 pub use refusal::{
     AdmitRefusal, CloseRefusal, CountRefusal, HandOverRefusal, OpenRefusal, PromiseRefusal,
+    WithdrawRefusal,
 };
 pub use sheet::{Figures, Page};
 pub use tally::{Kind, Tally};

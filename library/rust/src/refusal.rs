@@ -73,9 +73,17 @@ refusals! {
 }
 
 refusals! {
+    /// Why withdrawing refused.
+    WithdrawRefusal:
+    Unsound = 2, "board not sound";
+    BookEnded = 3, "slot is 1,000,001";
+    NotWaiting = 17, "ticket not on the board, or admitted in this slot";
+}
+
+refusals! {
     /// Why a tally refused an event.
     CountRefusal:
-    NoSuchCount = 9, "kind above 2 or grade above 7";
+    NoSuchCount = 9, "kind above 3 or grade above 7";
     CountFull = 10, "that count is already 8,000,000";
 }
 

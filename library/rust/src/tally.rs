@@ -12,6 +12,8 @@ pub enum Kind {
     Baked = 1,
     /// A rack was given up.
     GivenUp = 2,
+    /// A rack was withdrawn.
+    Withdrawn = 3,
 }
 
 /// A count for each kind of event and each of eight grades.
@@ -24,7 +26,7 @@ pub struct Tally {
 
 impl Tally {
     /// Kinds of event.
-    pub const KINDS: usize = 3;
+    pub const KINDS: usize = 4;
     /// Grades that are counted.
     pub const GRADES: usize = 8;
 

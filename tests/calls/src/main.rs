@@ -1,7 +1,8 @@
 //! Compares the library's calls, by both layers of its Rust crate, with the model's.
 //!
 //! Random sound boards, full ones, boards with every rack in its last slot, boards
-//! damaged in one clause, boundary boards, boards full up to a wait, short lent lists, tallies at their limits,
+//! damaged in one clause, boundary boards, boards full up to a wait, tickets on a board and off it, short lent lists,
+//! tallies at their limits,
 //! pages of any count and any figures, and runs of calls. A lent list is compared
 //! entry by entry, the entries past the racks given up too. Its last line is
 //! 'N passed, M failed'.
@@ -15,6 +16,7 @@ mod pages;
 mod promising;
 mod refusals;
 mod tallies;
+mod withdrawing;
 
 use model::draw::Draw;
 use model::samples;
@@ -35,6 +37,10 @@ fn run(draw: &mut Draw) -> bool {
     (0..60).all(|_| {
         if draw.one_in(5) {
             return promising::promising(&board);
+        }
+        if draw.one_in(5) {
+            let ticket = withdrawing::ticket(draw, &board);
+            return withdrawing::withdraws(&mut board, ticket);
         }
         if draw.one_in(3) {
             if draw.one_in(2) {
@@ -68,6 +74,11 @@ fn main() {
         count.take("promising", promising::promising(&board));
         let filled = promising::filled(&mut draw);
         count.take("promising, filled", promising::promising(&filled));
+        count.take("withdrawing", withdrawing::withdrawing(&mut draw, &board));
+        count.take(
+            "withdrawing, let through",
+            withdrawing::let_through(&mut draw),
+        );
     }
     count.take("zero tally", tallies::zero());
     for _ in 0..TALLIES {

@@ -3,6 +3,7 @@
 use model::refusal::Refusal;
 use oven::{
     AdmitRefusal, CloseRefusal, CountRefusal, HandOverRefusal, OpenRefusal, PromiseRefusal,
+    WithdrawRefusal,
 };
 
 /// The number of the model's answer.
@@ -49,6 +50,15 @@ pub fn promising(refusal: Refusal) -> Numbered<PromiseRefusal> {
         Refusal::Unsound => (PromiseRefusal::Unsound, 2),
         Refusal::BookEnded => (PromiseRefusal::BookEnded, 3),
         other => panic!("promising never gives {other:?}"),
+    }
+}
+
+pub fn withdrawing(refusal: Refusal) -> Numbered<WithdrawRefusal> {
+    match refusal {
+        Refusal::Unsound => (WithdrawRefusal::Unsound, 2),
+        Refusal::BookEnded => (WithdrawRefusal::BookEnded, 3),
+        Refusal::NotWaiting => (WithdrawRefusal::NotWaiting, 17),
+        other => panic!("withdrawing never gives {other:?}"),
     }
 }
 

@@ -6,13 +6,13 @@ use model::limits::FULL_COUNT;
 use model::tally;
 use oven::{Kind, Tally};
 
-const KINDS: [Kind; 3] = [Kind::Admitted, Kind::Baked, Kind::GivenUp];
+const KINDS: [Kind; 4] = [Kind::Admitted, Kind::Baked, Kind::GivenUp, Kind::Withdrawn];
 
 /// A tally of the model as the library has it.
 fn converted(tally: &tally::Tally) -> Tally {
     let counts: Vec<u32> = tally.counts.iter().flatten().copied().collect();
     Tally {
-        counts: counts.try_into().expect("24 counts"),
+        counts: counts.try_into().expect("as many counts"),
     }
 }
 
@@ -29,7 +29,7 @@ pub fn event(draw: &mut Draw) -> bool {
         *count = draw.pick(&limits);
     }
     let given = converted(&expected);
-    let kind = draw.pick(&[0, 1, 2, 2, 3, u32::MAX]);
+    let kind = draw.pick(&[0, 1, 2, 3, 3, 4, u32::MAX]);
     let grade = draw.pick(&[0, 3, 6, 7, 8, u32::MAX]);
     let answer = expected.record(kind, grade);
     let refusal = number(&answer);

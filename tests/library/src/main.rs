@@ -2,8 +2,11 @@
 
 use oven::calls::{
     AdmitAnswer, CloseAnswer, CountAnswer, HandOverAnswer, OpenAnswer, PromiseAnswer,
+    WithdrawAnswer,
 };
-use oven::{AdmitRefusal, CloseRefusal, CountRefusal, HandOverRefusal, OpenRefusal};
+use oven::{
+    AdmitRefusal, CloseRefusal, CountRefusal, HandOverRefusal, OpenRefusal, WithdrawRefusal,
+};
 use oven::{Board, Entry, Figures, Kind, Page, Place, Slot, Tally, Wait};
 use std::mem::{size_of, size_of_val};
 
@@ -36,12 +39,14 @@ fn answers() {
     let admitted = oven::calls::admit(opened.board, 1, Wait(1), 0);
     let closed = oven::calls::close_into(opened.board, &mut []);
     let promised = oven::calls::promise(opened.board);
+    let withdrawn = oven::calls::withdraw(opened.board, 1);
     let counted = oven::calls::count(Tally::new(), 0, 0);
     let handed_over = oven::calls::page_hand_over(Page::new(), Figures::default());
     layout!("oven_opened", OpenAnswer, opened, refusal "refusal", board "board");
     layout!("oven_admitted", AdmitAnswer, admitted, refusal "refusal", last "last", board "board");
     layout!("oven_closed", CloseAnswer, closed, refusal "refusal", ticket "ticket", grade "grade", given_up "given_up", shortfall "shortfall", board "board");
     layout!("oven_promised", PromiseAnswer, promised, refusal "refusal", wait "wait");
+    layout!("oven_withdrawn", WithdrawAnswer, withdrawn, refusal "refusal", grade "grade", board "board");
     layout!("oven_counted", CountAnswer, counted, refusal "refusal", tally "tally");
     layout!("oven_handed_over", HandOverAnswer, handed_over, refusal "refusal", page "page");
 }
@@ -67,9 +72,11 @@ fn numbers() {
     refused("NO_SUCH_COUNT", CountRefusal::NoSuchCount.number());
     refused("COUNT_FULL", CountRefusal::CountFull.number());
     refused("OFF_SHEET", HandOverRefusal::OffSheet.number());
+    refused("NOT_WAITING", WithdrawRefusal::NotWaiting.number());
     println!("OVEN_KIND_ADMITTED: {}", Kind::Admitted as u32);
     println!("OVEN_KIND_BAKED: {}", Kind::Baked as u32);
     println!("OVEN_KIND_GIVEN_UP: {}", Kind::GivenUp as u32);
+    println!("OVEN_KIND_WITHDRAWN: {}", Kind::Withdrawn as u32);
 }
 
 fn main() {

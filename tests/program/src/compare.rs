@@ -33,7 +33,10 @@ mod tests {
 
     #[test]
     fn a_missing_line_end_is_a_difference() {
-        assert_eq!(difference(b"D,1\nT,0,0,0,0", b"D,1\nT,0,0,0,0\n"), Some(2));
+        assert_eq!(
+            difference(b"D,1\nT,0,0,0,0,0", b"D,1\nT,0,0,0,0,0\n"),
+            Some(2)
+        );
         assert_eq!(difference(b"D,1\n", b"D,1\nR,2,12\n"), Some(2));
     }
 

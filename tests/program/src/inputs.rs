@@ -25,6 +25,7 @@ pub fn all() -> Vec<Case> {
         shortfall(),
         promise(),
         sold_out(),
+        withdrawals(),
     ];
     cases.extend(generated());
     cases.extend(in_pieces());
@@ -44,7 +45,7 @@ fn case(name: String, bytes: Vec<u8>, piece: usize) -> Case {
 /// 01's sample session.
 fn sample() -> Case {
     let bytes = b"D,1\nA,1,1,1\nA,2,2,1\nA,3,2,0\nB\nB\nB\n".to_vec();
-    let expected = b"D,1\nA,1,1\nA,2,2\nA,3,2\nB,1,3,0,1,1\nG,1,1,1\nB,2,2,1,0,0\nB,3,0,0,0,0\nT,0,1,1,0\nT,1,2,1,1\n".to_vec();
+    let expected = b"D,1\nA,1,1\nA,2,2\nA,3,2\nB,1,3,0,1,1\nG,1,1,1\nB,2,2,1,0,0\nB,3,0,0,0,0\nT,0,1,1,0,0\nT,1,2,1,1,0\n".to_vec();
     Case {
         name: "sample".to_string(),
         bytes,
@@ -70,7 +71,7 @@ fn board_nine() -> Case {
             .chain(&[b'7'; 41])
             .chain(b"\n"),
     );
-    expected.extend(b"R,15,12\nR,16,11\nT,0,8,0,0\n");
+    expected.extend(b"R,15,12\nR,16,11\nT,0,8,0,0,0\n");
     Case {
         name: "board 9".to_string(),
         bytes,
@@ -90,7 +91,7 @@ fn given_up() -> Case {
         b"B,2,101,0,6,6\nG,2,12,1\nG,2,100,1\nG,2,8,6\nG,2,10,6\nG,2,99,6\nG,2,13,7\nB,3,11,0,0,0\n",
     );
     expected.extend(
-        b"T,0,2,2,0\nT,1,3,1,2\nT,2,0,0,0\nT,3,0,0,0\nT,4,0,0,0\nT,5,0,0,0\nT,6,3,0,3\nT,7,1,0,1\n",
+        b"T,0,2,2,0,0\nT,1,3,1,2,0\nT,2,0,0,0,0\nT,3,0,0,0,0\nT,4,0,0,0,0\nT,5,0,0,0,0\nT,6,3,0,3,0\nT,7,1,0,1,0\n",
     );
     Case {
         name: "racks given up".to_string(),
@@ -107,7 +108,7 @@ fn shortfall() -> Case {
     let mut expected =
         b"D,1\nA,1,3\nA,2,3\nA,3,3\nA,4,3\nB,1,2,0,0,1\nB,2,4,0,0,1\nB,3,1,1,1,1\nG,3,3,1\n"
             .to_vec();
-    expected.extend(b"B,4,0,0,0,0\nT,0,2,2,0\nT,1,2,1,1\n");
+    expected.extend(b"B,4,0,0,0,0\nT,0,2,2,0,0\nT,1,2,1,1,0\n");
     Case {
         name: "shortfall".to_string(),
         bytes,
@@ -125,7 +126,7 @@ fn promise() -> Case {
     let mut expected =
         b"R,1,15\nD,1\nQ,1\nA,1,1\nQ,2\nA,2,4\nA,3,4\nA,4,4\nQ,5\nA,5,4\nQ,0\n".to_vec();
     expected.extend(b"B,1,2,0,1,1\nG,1,1,1\nQ,4\nB,2,4,0,0,0\nQ,3\nR,16,13\nR,17,12\n");
-    expected.extend(b"T,0,2,2,0\nT,1,3,0,1\n");
+    expected.extend(b"T,0,2,2,0,0\nT,1,3,0,1,0\n");
     Case {
         name: "promise".to_string(),
         bytes,
@@ -159,10 +160,27 @@ fn sold_out() -> Case {
     }
     line(
         "B\nQ\n".to_string(),
-        "B,5,5,0,0,0\nQ,32\nT,0,36,5,0\n".to_string(),
+        "B,5,5,0,0,0\nQ,32\nT,0,36,5,0,0\n".to_string(),
     );
     Case {
         name: "sold out".to_string(),
+        bytes,
+        piece: 0,
+        expected: Some(expected),
+    }
+}
+
+/// Racks taken back (02, Seven): three racks for two slots, and one of them withdrawn. 17 for a ticket of this slot, one
+/// that is withdrawn, baked or 0; 4 for a withdrawn ticket that is admitted again.
+fn withdrawals() -> Case {
+    let mut bytes = b"W,1\nD,1\nA,1,2,1\nA,2,2,0\nA,3,2,1\nW,1\nB\nW,01\nW,1\nA,1,1,0\n".to_vec();
+    bytes.extend(b"W,2\nW,0\nW,0000000003\nA,4,2,1\nW\nW,\nW,1,\nw,1\nW,00000000003\nB\nB\nW,4\n");
+    let mut expected =
+        b"R,1,15\nD,1\nA,1,2\nA,2,2\nA,3,2\nR,6,17\nB,1,2,0,0,1\nW,1\nR,9,17\nR,10,4\n".to_vec();
+    expected.extend(b"R,11,17\nR,12,17\nW,3\nA,4,3\nR,15,13\nR,16,14\nR,17,13\nR,18,12\nR,19,14\n");
+    expected.extend(b"B,2,4,1,0,0\nB,3,0,0,0,0\nR,22,17\nT,0,1,1,0,0\nT,1,3,1,0,2\n");
+    Case {
+        name: "withdrawals".to_string(),
         bytes,
         piece: 0,
         expected: Some(expected),
@@ -215,7 +233,7 @@ fn in_pieces() -> Vec<Case> {
 
 /// A day that the end of the read buffer cuts at every place of its first lines.
 fn at_the_buffer() -> Vec<Case> {
-    let day = b"D,2\nA,1,3,0\nA,2,1,3\n\nA,4294967295,2,1\n0123456789012345678901234567890123456789x\nB\nB,\nB\n".to_vec();
+    let day = b"D,2\nA,1,3,0\nA,2,1,3\nW,1\n\nA,4294967295,2,1\n0123456789012345678901234567890123456789x\nB\nB,\nB\n".to_vec();
     (0..=day.len())
         .map(|place| {
             let mut bytes = vec![b'\n'; READ_BUFFER - place];

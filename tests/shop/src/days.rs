@@ -49,6 +49,7 @@ pub fn board(binary: &str) -> Program {
         ("Q\n", "Q,0\n"),
         ("B\n", "B,1,3,0,1,1\nG,1,1,1\n"),
         ("Q\n", "Q,2\n"),
+        ("W,3\n", "R,8,17\n"),
         ("B\n", "B,2,2,1,0,0\n"),
         ("B\n", "B,3,0,0,0,0\n"),
     ];
@@ -56,8 +57,8 @@ pub fn board(binary: &str) -> Program {
     Program {
         binary: binary.to_string(),
         name: "oven",
-        sample: Day::new(&sample, "T,0,1,1,0\nT,1,2,1,1\n"),
-        in_pieces: Day::new(&in_pieces, "A,7,3\nT,0,1,0,0\nT,1,0,0,0\n"),
+        sample: Day::new(&sample, "T,0,1,1,0,0\nT,1,2,1,1,0\n"),
+        in_pieces: Day::new(&in_pieces, "A,7,3\nT,0,1,0,0,0\nT,1,0,0,0,0\n"),
         empty_slots: answers_of_empty_slots,
         refused: "R,1,15\nR,2,12\nR,3,12\n",
     }
@@ -74,7 +75,7 @@ pub fn sheet(binary: &str) -> Program {
         ("B\nB\nB\n", ""),
         (&closings, ""),
         ("B\n", &page(first, "2     1")),
-        ("hello\nQ\nB\n", ""),
+        ("hello\nQ\nW,9\nB\n", ""),
         ("A,9,1,\nB\n", ""),
     ];
     let in_pieces = [("D", ""), (",1\nA,", ""), ("7,3,0\nB", "")];
@@ -91,7 +92,7 @@ pub fn sheet(binary: &str) -> Program {
 fn answers_of_empty_slots(slots: u32) -> Day {
     let mut pieces = vec![("D,0\n".to_string(), "D,0\n".to_string())];
     pieces.extend((1..=slots).map(|slot| ("B\n".to_string(), format!("B,{slot},0,0,0,0\n"))));
-    Day { pieces, end: "T,0,0,0,0\n".to_string() }
+    Day { pieces, end: "T,0,0,0,0,0\n".to_string() }
 }
 
 fn pages_of_empty_slots(slots: u32) -> Day {

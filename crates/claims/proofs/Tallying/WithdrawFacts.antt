@@ -6,7 +6,7 @@ use mathlib.Core.Option.{some}
 use Prim.Native.Nat.{ℕ, zero, suc, _+_}
 use native.Mathlib.Omega.{arith}
 use lib.Dec.{eqb}
-use borrow.Author.Tests.{eqb-true, ne-eqb}
+use borrow.Author.Tests.{eqb-true, ne-eqb, not-false}
 use Rattle.lists.specs.Select.{one-if, how-many}
 use Rattle.lists.proofs.Counting.{one-if-no, count-split, count-in-selection}
 use Rattle.lists.proofs.Once.{count-once}
@@ -23,7 +23,7 @@ use Rattle.board.proofs.Soundness.Facts.{SoundFacts}
 use Rattle.board.proofs.Soundness.Apart.{facts}
 use Rattle.board.proofs.Tallies.CountAt.{grades-counted}
 use Rattle.board.proofs.Tallies.Kinds.{same-cell, withdrawn-cell}
-use Rattle.board.proofs.Calls.Rows.{Withdraws, withdraws}
+use Rattle.board.proofs.Calls.Rows.{row-passed, Withdraws, withdraws}
 use Rattle.board.proofs.Calls.HeldAfter.{held-without}
 use Rattle.board.proofs.Calls.SoundAfter.{withdraw-number-sound, without-ticket-sound}
 use Rattle.claims.specs.Balance.{on-board}
@@ -92,10 +92,10 @@ withdraw-leads b t s = go (withdraw-number b t) refl
     go (suc n) e = leads-nowhere b s
 
 -- a withdrawal takes no job of the present slot
-pub intake-kept : (b : Board) (t : ℕ) → sound b ≡ true → in-slot (withdrawn b t .board) ≡ in-slot b
-unfolding withdrawn withdrawn-if
-intake-kept b t s = go (withdraw-number b t) refl
+pub intake-kept : (b : Board) (t : ℕ) → in-slot (withdrawn b t .board) ≡ in-slot b
+unfolding withdrawn withdrawn-if withdraw-number
+intake-kept b t = go (withdraw-number b t) refl
   where
     go : (n : ℕ) → withdraw-number b t ≡ n → in-slot (withdrawn-if n b t .board) ≡ in-slot b
-    go zero e = same-now b t s e
+    go zero e = same-now b t (not-false (sound b) (row-passed 1 _ _ e .0)) e
     go (suc n) e = refl
