@@ -1,8 +1,9 @@
 -- Demand 3: on each stretch our answers are what our rule makes of the day book, which is a book with the limits lifted; and our rule has every level.
 use mathlib.Core.Path.{_≡_, refl, sym, ap, _∙_, subst}
 use mathlib.Core.Bool.{Bool, true}
-use mathlib.Core.List.{[], _++_, append-nil}
+use mathlib.Core.List.{[], append-nil}
 use Prim.Native.Nat.{ℕ, _≤_}
+use native.Mathlib.Omega.{arith}
 use Rattle.books.specs.Book.{Beginning}
 use Rattle.books.specs.Schedule.{Schedule, IsSchedule, total, from-slot}
 use Rattle.books.specs.Rule.{made-by}
@@ -53,10 +54,10 @@ module _ (d : ℕ) (x : Stretch) (R : Ran d x) where
         begins-as-board = r .as-board;
         begins-with-such = ap such-racks (r .as-board) ∙ such-begun (x .first) (r .first-sound);
         plan = subst (IsSchedule B) same (made-schedule (setting d every-beginning) B T our-rule d);
-        totals = λ p P k h. subst (λ (o : Schedule). total B p k ≤ total B o k) same (ours-most (setting d every-beginning) B T k h p P);
+        totals = λ p P k h. subst (λ (o : Schedule). total B p k ≤ total B o k) same (ours-most (setting d every-beginning) B T k (omega arith) p P);
         by-grade = λ begins e j h r l u n k i.
             subst (λ (o : Schedule). count-of d u B (made-by r d B) k ≤ count-of d u B o k) same
-            (ours-at-least (setting d begins) B (tried begins e) k i j h r l u n);
+            (ours-at-least (setting d begins) B (tried begins e) k (omega arith) j h r l u n);
       }
 
 pub demand3 : Demand3

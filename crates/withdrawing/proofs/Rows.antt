@@ -1,12 +1,11 @@
 -- What rows 3 and 17 make of a withdrawal.
-use mathlib.Core.Path.{_≡_, ap, _∙_}
+use mathlib.Core.Path.{_≡_}
 use mathlib.Core.Option.{none, some}
 use Prim.Native.Nat.{ℕ, suc}
 use borrow.Author.Tests.{eq-eqb, ne-eqb}
 use Rattle.rule.specs.Job.{Job, with-ticket}
 use Rattle.rule.specs.Bake.{grade-of}
 use Rattle.board.specs.declared.Board.{Board}
-use Rattle.board.specs.declared.Withdrawn.{Withdrawn}
 use Rattle.board.specs.Limits.{last-slot}
 use Rattle.board.specs.Rows.{_if_, first-given, not-to-withdraw, withdraw-rows}
 use Rattle.board.specs.Held.{slot-of, held}

@@ -42,4 +42,4 @@ held-moved-on b t = held-thinned b (slot-of b + 1) (stays (slot-of b) t)
 
 pub held-without : (b : Board) (t : ℕ) → held (without-ticket b t) ≡ select (λ (r : Job). not (eqb (r .ticket) t)) (held b)
 unfolding without-ticket
-held-without b t = held-thinned b (slot-of b) (λ (r : Job). not (eqb (r .ticket) t))
+held-without b t = held-thinned b _ _

@@ -6,7 +6,6 @@ use native.Mathlib.Omega.{arith}
 use lib.Dec.{ltb, eqb}
 use borrow.Author.Tests.{ltb-true}
 use Rattle.lists.proofs.Tests.{and-left}
-use Rattle.rule.specs.Job.{Job}
 use Rattle.rule.specs.Bake.{stays, ticket-of}
 use Rattle.board.specs.declared.Board.{Board}
 use Rattle.board.specs.Limits.{last-slot}
@@ -54,7 +53,7 @@ unfolding without-ticket
 without-ticket-sound b t s =
     let f = facts b s in
     all-sound (without-ticket b t)
-    (after-thinning b f (slot-of b) (λ (r : Job). not (eqb (r .ticket) t)) (omega arith) (f .to-last) (λ r m h. f .each r m .in-date))
+    (after-thinning b f _ _ (omega arith) (omega (arith, f .to-last)) (λ r m h. omega (arith, f .each r m .in-date)))
 
 -- a closing that is not refused
 pub close-going : (b : Board) (lent : ℕ) → sound b ≡ true → close-number b lent ≡ 0 → slot-of b ≡ suc last-slot → ⊥

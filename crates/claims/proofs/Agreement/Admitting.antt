@@ -9,7 +9,7 @@ use Rattle.lists.specs.Select.{select}
 use Rattle.lists.proofs.Members.{each-more, select-append, select-yes}
 use Rattle.lists.proofs.Counting.{count-append}
 use Rattle.rule.specs.Job.{Job, job, in-date}
-use Rattle.books.specs.Book.{enter, Book, present, jobs, extend}
+use Rattle.books.specs.Book.{enter, Book, jobs, extend}
 use Rattle.board.specs.declared.Board.{Board}
 use Rattle.board.specs.Held.{held}
 use Rattle.board.specs.Admit.{admit-number, with-job}

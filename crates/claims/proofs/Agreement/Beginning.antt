@@ -1,7 +1,7 @@
 -- A sound board agrees with a book that begins with what is on it: at the start of a list, and after a withdrawal.
 use mathlib.Core.Path.{_≡_, refl, sym, ap, subst}
 use mathlib.Core.Bool.{Bool, true, _&&_}
-use mathlib.Core.List.{List, map, append-nil, List·Memᴰ}
+use mathlib.Core.List.{map, append-nil, List·Memᴰ}
 use Prim.Native.Nat.{ℕ, _^_, _<_}
 use native.Mathlib.Omega.{arith}
 use lib.Dec.{leb, ltb}

@@ -1,7 +1,7 @@
 -- Board and book still agree after a withdrawal that the rows let through: the book begins afresh with what is left on the board.
 use mathlib.Core.Path.{_≡_, sym, ap, _∙_, subst}
 use Prim.Native.Nat.{ℕ}
-use Rattle.books.specs.Book.{Beginning, present, highest}
+use Rattle.books.specs.Book.{highest}
 use Rattle.books.specs.Rule.{without}
 use Rattle.board.specs.declared.Board.{Board}
 use Rattle.board.specs.Held.{slot-of, held, thinned}
@@ -15,16 +15,13 @@ use Rattle.claims.proofs.Agreement.Agree.{Agree, waiting-held}
 use Rattle.claims.proofs.Agreement.Beginning.{agree-begun}
 
 module _ {d s : ℕ} {b : Board} {D : Day} (a : Agree d s b D) (t : ℕ) where
-  abbrev afresh : Beginning
-  afresh = record { slot = present (D .book); highest = highest (D .book); jobs = without t (waiting D) }
-
   left-there : without t (waiting D) ≡ held (without-ticket b t)
   unfolding without
   left-there = ap (without t) (waiting-held a) ∙ sym (held-without b t)
 
-  pub begun-there : afresh ≡ begun-from (without-ticket b t)
-  unfolding begun-from without-ticket thinned
-  begun-there = λ i. record { slot = (a .book-slot ∙ sym (a .slot)) i; highest = (a .same-highest) i; jobs = left-there i }
+  pub afresh : through d D (withdraw t) ≡ new-day (begun-from (without-ticket b t))
+  unfolding through begun-from without-ticket thinned
+  afresh = λ i. new-day (record { slot = (a .book-slot ∙ sym (a .slot)) i; highest = (a .same-highest) i; jobs = left-there i })
 
   pub same-depth : without-ticket b t .depth ≡ d
   unfolding without-ticket thinned
@@ -35,6 +32,5 @@ module _ {d s : ℕ} {b : Board} {D : Day} (a : Agree d s b D) (t : ℕ) where
   same-slot = a .slot
 
   pub agree-withdrawn : Agree d s (without-ticket b t) (through d D (withdraw t))
-  unfolding through
   agree-withdrawn =
-      subst (λ x. Agree d s (without-ticket b t) (new-day x)) (sym begun-there) (agree-begun (without-ticket b t) (without-ticket-sound b t (a .is-sound)) same-depth same-slot)
+      subst (Agree d s (without-ticket b t)) (sym afresh) (agree-begun (without-ticket b t) (without-ticket-sound b t (a .is-sound)) same-depth same-slot)

@@ -8,7 +8,7 @@ use borrow.Author.Tests.{lt-ltb}
 use Rattle.lists.proofs.Tests.{and-intro}
 use Rattle.rule.specs.Job.{job}
 use Rattle.rule.specs.Bake.{ticket-of}
-use Rattle.books.specs.Book.{Beginning, Change, enter, end-slot, present, raised, highest, extend}
+use Rattle.books.specs.Book.{Beginning, Change, enter, end-slot, raised, highest, extend}
 use Rattle.books.specs.Rule.{valid, without}
 use Rattle.books.specs.Rival.{fit, lifted}
 use Rattle.books.specs.NoRegretRule.{our-choice}
@@ -31,7 +31,7 @@ use Rattle.claims.proofs.Agreement.Agree.{Agree}
 use Rattle.claims.proofs.Agreement.Admitting.{agree-admitted}
 use Rattle.claims.proofs.Agreement.Closing.{same-baked, choice, named-valid, agree-closed}
 use Rattle.claims.proofs.Agreement.Beginning.{agree-begun}
-use Rattle.claims.proofs.Agreement.Withdrawing.{begun-there, same-depth, same-slot}
+use Rattle.claims.proofs.Agreement.Withdrawing.{afresh, same-depth, same-slot}
 
 -- the tickets that our rule's choice names, from the changes so far, the slot and the jobs left on
 abbrev pub ours-from : ℕ → Beginning → List Change → ℕ → Day → List Change → List ℕ
@@ -111,15 +111,13 @@ module _ {d s : ℕ} {b : Board} {x : Stretch} (R : Runs d s b x) where
             ∙ ap₂ (λ i j. x .named ++ (i ∷ after j es)) (sym named) (same-baked (R .agree))
             ∙ sym (append-assoc (x .named) (n ∷ []) _);
       }
-
     where
       after : ℕ → List Change → List ℕ
       after k es = chosen our-choice d first (D .book .changes ++ (end-slot ∷ [])) (suc s) (without k (D .left)) es
 
   -- after a withdrawal the next begins
   pub runs-withdrawn : (t : ℕ) → Runs d s (without-ticket b t) (record { first = without-ticket b t; day = through d D (withdraw t); named = [] })
-  unfolding through
   runs-withdrawn t =
       let c = without-ticket b t in
-      subst (λ y. Runs d s c (record { first = c; day = new-day y; named = [] })) (sym (begun-there (R .agree) t))
+      subst (λ y. Runs d s c (record { first = c; day = y; named = [] })) (sym (afresh (R .agree) t))
       (runs-begun c (without-ticket-sound b t (R .agree .is-sound)) (same-depth (R .agree) t) (same-slot (R .agree) t))

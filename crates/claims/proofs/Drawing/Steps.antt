@@ -6,7 +6,6 @@ use Prim.Native.Nat.{ℕ, zero, suc}
 use native.Mathlib.Omega.{arith}
 use lib.Dec.{eqb}
 use borrow.Author.Tests.{ne-eqb}
-use Rattle.rule.specs.Bake.{ticket-of}
 use Rattle.board.specs.declared.Board.{Board}
 use Rattle.board.specs.Admit.{admit-number, admitted-if, admitted}
 use Rattle.board.specs.Close.{close-number, closed-with, closed-if, closed}

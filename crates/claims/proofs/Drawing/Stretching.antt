@@ -6,7 +6,7 @@ use mathlib.Core.List.{List, [], _∷_, List·Memᴰ, List·Memᴰ·append-cases
 use Prim.Native.Nat.{ℕ}
 use Rattle.lists.proofs.Tests.{cond-true, cond-false}
 use Rattle.board.specs.declared.Board.{Board}
-use Rattle.board.specs.Held.{slot-of, held}
+use Rattle.board.specs.Held.{slot-of}
 use Rattle.board.specs.Sound.{sound}
 use Rattle.board.proofs.Soundness.HeldCount.{no-jobs}
 use Rattle.claims.specs.Calls.{Call, admit, close, withdraw, board-after}
