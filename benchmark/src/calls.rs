@@ -1,4 +1,5 @@
-//! Single calls: closing boards of several sizes and shapes, admitting on a nearly full one, asking what can be promised.
+//! Single calls: closing boards of several sizes and shapes, admitting on a nearly full one, withdrawing from a full one, asking what can be
+//! promised.
 
 use crate::convert;
 use crate::timed::Timed;
@@ -173,6 +174,24 @@ fn admitting() -> Timed {
     }
 }
 
+/// Withdraws a rack from the midst of a full board. There is nothing to sort here either.
+fn withdrawing() -> Timed {
+    let board = board(256, Shape::Spread);
+    let (given, ticket) = (convert::board(&board), 128);
+    let ours = oven::calls::withdraw(given, ticket);
+    let grade = calls::withdraw(&mut board.clone(), ticket);
+    assert_eq!((0, grade), (ours.refusal, Ok(ours.grade.into())));
+    let times = least(&mut [
+        &mut || keep(oven::calls::withdraw(black_box(given), ticket)),
+        &mut || keep(calls::withdraw(&mut black_box(board.clone()), ticket)),
+    ]);
+    Timed {
+        name: "withdrawing from 256 racks, waits and grades spread".into(),
+        same_lists: true,
+        times,
+    }
+}
+
 /// Asks what can be promised on a board of this kind. Sorting checks soundness as the model does, and sorts a copy of the racks.
 fn promising(name: &str, board: Board) -> Timed {
     let given = convert::board(&board);
@@ -226,5 +245,6 @@ pub fn pass() -> Vec<Timed> {
     let filled = samples::filled_board(&mut Draw::new(7), 100, 31, 0);
     all.push(promising("31 racks, wait 32 left", filled));
     all.push(promising("256 racks, none left", board(256, Shape::Spread)));
+    all.push(withdrawing());
     all
 }

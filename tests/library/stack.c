@@ -41,7 +41,7 @@ static void try_board(uint32_t depth, uint32_t held, bool due) {
 
 static void try_depth(uint32_t depth) {
     try_open(depth, OVEN_NOT_REFUSED);
-    for (uint32_t held = 0; held <= OVEN_PLACES; held += 4) {
+    for (uint32_t held = 0; held <= OVEN_PLACES; held += 8) {
         try_board(depth, held, false);
         try_board(depth, held, true);
     }

@@ -6,7 +6,7 @@ use model::limits::{DEEPEST, MOST_HELD};
 use model::lines::{self, Request};
 use model::refusal::Refusal;
 use model::rows::{self, Standing};
-use model::tally::{Tally, ADMITTED, BAKED, EXPIRED};
+use model::tally::{Tally, ADMITTED, BAKED, EXPIRED, WITHDRAWN};
 use std::io::{self, BufRead, BufWriter, Write};
 
 /// The open board, if there is one, and the tally.
@@ -144,10 +144,11 @@ fn main() -> io::Result<()> {
         let count = |kind| day.tally.count(kind, grade);
         writeln!(
             output,
-            "T,{grade},{},{},{}",
+            "T,{grade},{},{},{},{}",
             count(ADMITTED),
             count(BAKED),
-            count(EXPIRED)
+            count(EXPIRED),
+            count(WITHDRAWN)
         )?;
     }
     output.flush()

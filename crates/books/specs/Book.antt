@@ -3,7 +3,8 @@ use mathlib.Core.List.{List, [], _∷_, _++_}
 use Prim.Native.Nat.{ℕ, suc, _+_}
 use Rattle.rule.specs.Job.{Job, job}
 
--- 'The day book starts with that board's slot and highest ticket, and no racks.' Here it may start with some jobs; 01's books have none.
+-- 'The day book starts with that board's slot and highest ticket, and no racks.' 02, Seven: after a withdrawal 'with the racks left on the board as first
+-- arrivals'.
 pub record Beginning : Type 0 where
   pub slot : ℕ
   pub highest : ℕ

@@ -9,7 +9,8 @@ use Rattle.books.specs.Book.{Beginning, Change, enter, end-slot, Book}
 use Rattle.books.specs.Schedule.{Schedule, from-slot}
 
 -- 'A rule says at each closing which rack [..] it bakes, or none': it names a ticket.
--- 'It knows D, the slot and highest ticket the book began with, and the admittings and closings in the book up to then, in order.'
+-- 'It knows D, the slot and highest ticket the book began with, and the admittings and closings in the book up to then, in order.' 02, Seven: 'A rule knows
+-- these racks', with which the book began.
 abbrev pub Rule : Type 0
 Rule = (depth : ℕ) → Beginning → List Change → ℕ
 

@@ -20,7 +20,7 @@ module _ {d s : ℕ} {b : Board} {D : Day} (a : Agree d s b D) (t : ℕ) where
   left-there = ap (without t) (waiting-held a) ∙ sym (held-without b t)
 
   pub afresh : through d D (withdraw t) ≡ new-day (begun-from (without-ticket b t))
-  unfolding through begun-from without-ticket thinned
+  unfolding through new-day begun-from without-ticket thinned
   afresh = λ i. new-day (record { slot = (a .book-slot ∙ sym (a .slot)) i; highest = (a .same-highest) i; jobs = left-there i })
 
   pub same-depth : without-ticket b t .depth ≡ d
