@@ -4,8 +4,8 @@ mod common;
 
 use std::collections::BTreeSet;
 
-use common::each_question;
 use common::spread::Spread;
+use common::{each_question, lines_of};
 use model::board::Board;
 use model::day::Day;
 use model::inputs::{self, Kind};
@@ -160,32 +160,22 @@ fn questions_come_at_the_books_end_and_past_it() {
     assert_eq!(last_slot, 2);
 }
 
-/// The lines of the days of a kind.
-fn lines(kind: Kind, seeds: u64) -> BTreeSet<Vec<u8>> {
-    let mut lines = BTreeSet::new();
-    for seed in 0..seeds {
-        let input = kind.input(seed, None);
-        lines.extend(input.split(|&byte| byte == b'\n').map(|line| line.to_vec()));
-    }
-    lines
-}
-
 #[test]
 fn spoilt_questions() {
     let forms: [&[u8]; 7] = [b"Q,", b"Q,1", b"Q,x", b"QQ", b" Q", b"Q ", b"q"];
     for name in ["refusals", "mixed", "pages"] {
-        let lines = lines(kind(name), 100);
+        let lines = lines_of(kind(name), 100);
         for form in forms {
             assert!(lines.contains(form), "{name} {form:?}");
         }
     }
-    let lines = lines(kind("damaged"), 100);
+    let lines = lines_of(kind("damaged"), 100);
     for form in [b"Q," as &[u8], b",Q", b"QQ", b"q"] {
         assert!(lines.contains(form), "{form:?}");
     }
     let long = |line: &Vec<u8>| line.len() > 40 && line.starts_with(b"Q");
     for name in ["refusals", "overlong", "mixed"] {
-        assert!(self::lines(kind(name), 20).iter().any(long), "{name}");
+        assert!(lines_of(kind(name), 20).iter().any(long), "{name}");
     }
 }
 
@@ -209,5 +199,5 @@ fn questions_stand_everywhere() {
 
 #[test]
 fn long_days_have_no_questions() {
-    assert!(!lines(kind("long"), 2).contains(&b"Q"[..]));
+    assert!(!lines_of(kind("long"), 2).contains(&b"Q"[..]));
 }

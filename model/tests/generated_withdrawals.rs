@@ -5,6 +5,7 @@ mod common;
 
 use std::collections::{BTreeMap, BTreeSet};
 
+use common::lines_of;
 use common::withdrawals::{each_withdrawal, gets_another_baked, Withdrawal};
 use model::board::{Board, Job};
 use model::calls::withdraw;
@@ -246,16 +247,6 @@ fn taking_a_rack_off_often_gets_another_one_baked() {
     }
 }
 
-/// The lines of the days of a kind.
-fn lines(kind: Kind, seeds: u64) -> BTreeSet<Vec<u8>> {
-    let mut lines = BTreeSet::new();
-    for seed in 0..seeds {
-        let input = kind.input(seed, None);
-        lines.extend(input.split(|&byte| byte == b'\n').map(|line| line.to_vec()));
-    }
-    lines
-}
-
 #[test]
 fn spoilt_withdrawals() {
     let forms: [&[u8]; 16] = [
@@ -277,21 +268,21 @@ fn spoilt_withdrawals() {
         b"W,0",
     ];
     for name in ["refusals", "mixed", "pages"] {
-        let lines = lines(kind(name), 200);
+        let lines = lines_of(kind(name), 200);
         for form in forms {
             let text = String::from_utf8_lossy(form);
             assert!(lines.contains(form), "{name} {text:?}");
         }
     }
     let starts: [&[u8]; 3] = [b",W,", b"w,", b"W,,"];
-    let lines = lines(kind("damaged"), 200);
+    let lines = lines_of(kind("damaged"), 200);
     for start in starts {
         let text = String::from_utf8_lossy(start);
         assert!(lines.iter().any(|line| line.starts_with(start)), "{text:?}");
     }
     let long = |line: &Vec<u8>| line.len() > 40 && line.starts_with(b"W,");
     for name in ["refusals", "overlong", "mixed"] {
-        assert!(self::lines(kind(name), 20).iter().any(long), "{name}");
+        assert!(lines_of(kind(name), 20).iter().any(long), "{name}");
     }
 }
 

@@ -15,6 +15,7 @@ use model::board::{open, Board, Job};
 use model::book::Book;
 use model::calls::{admit, close, Closed};
 use model::day::{Day, Done};
+use model::inputs::Kind;
 use model::limits::{LONGEST_LAXITY, MOST_HELD};
 use model::lines::next_line;
 use model::list::{play_with, Answer, Call};
@@ -30,6 +31,16 @@ pub type Pick = fn(&[Job], u32, u32) -> Option<Job>;
 pub fn printed(input: &str) -> String {
     let output = model::program::run_bytes(input.as_bytes());
     String::from_utf8(output).expect("the program prints text only")
+}
+
+/// The lines of the days of a kind.
+pub fn lines_of(kind: Kind, seeds: u64) -> BTreeSet<Vec<u8>> {
+    let mut lines = BTreeSet::new();
+    for seed in 0..seeds {
+        let input = kind.input(seed, None);
+        lines.extend(input.split(|&byte| byte == b'\n').map(|line| line.to_vec()));
+    }
+    lines
 }
 
 /// The printed lines but the T lines.
