@@ -22,9 +22,9 @@ extern "C" {
 #endif
 
 /* The four limits of a board. */
-#define OVEN_LONGEST_WAIT 32    /* longest wait */
+#define OVEN_LONGEST_WAIT 24    /* longest wait */
 #define OVEN_MOST_IN_SLOT 8     /* most racks admitted in a slot */
-#define OVEN_PLACES 256         /* most racks held; a lent list has at least as many entries */
+#define OVEN_PLACES 192         /* most racks held; a lent list has at least as many entries */
 #define OVEN_LAST_SLOT 1000000  /* last slot of a book */
 
 /* A tally has a count for each of four kinds of event and each of eight grades. */
@@ -42,10 +42,10 @@ enum oven_refusal {
     OVEN_REFUSED_UNSOUND = 2,       /* admitting, closing, promising, withdrawing: board not sound */
     OVEN_REFUSED_BOOK_ENDED = 3,    /* admitting, closing, promising, withdrawing: slot is 1,000,001 */
     OVEN_REFUSED_TICKET = 4,        /* admitting: ticket not above the highest so far */
-    OVEN_REFUSED_WAIT = 5,          /* admitting: wait not 1 to 32 */
+    OVEN_REFUSED_WAIT = 5,          /* admitting: wait not 1 to OVEN_LONGEST_WAIT */
     OVEN_REFUSED_GRADE = 6,         /* admitting: grade not below 2^D, D the depth */
     OVEN_REFUSED_SLOT_FULL = 7,     /* admitting: eight racks on the board were admitted in this slot */
-    OVEN_REFUSED_LIST_SHORT = 8,    /* closing: lent list has fewer than 256 entries */
+    OVEN_REFUSED_LIST_SHORT = 8,    /* closing: lent list has fewer than OVEN_PLACES entries */
     OVEN_REFUSED_NO_SUCH_COUNT = 9, /* tally: kind above 3 or grade above 7 */
     OVEN_REFUSED_COUNT_FULL = 10,   /* tally: that count is already 8,000,000 */
     OVEN_REFUSED_OFF_SHEET = 16,    /* sheet: slot above 1,000,000, grade above 7 or more than 255 given up */
@@ -136,7 +136,7 @@ typedef struct oven_closed {
 
 typedef struct oven_promised {
     uint8_t refusal;
-    oven_wait wait; /* the least that can be promised, 1 to 32; 0 for none */
+    oven_wait wait; /* the least that can be promised, 1 to OVEN_LONGEST_WAIT; 0 for none */
 } oven_promised;
 
 typedef struct oven_withdrawn {
@@ -158,24 +158,26 @@ typedef struct oven_handed_over {
 /*
  * The calls. OVEN_STACK_.. is the stack, in bytes, that suffices for a call: its own, and the board, tally or page that it is given
  * and answers by value. Where it copies them it has room for the system's loader too, which may bind memcpy or memset at
- * the first call.
+ * the first call; how much that takes depends on the processor.
  */
+#define OVEN_STACK_LOADER 4096
+#define OVEN_STACK_BOARDS(boards) ((boards) * sizeof(oven_board) + 1024 + OVEN_STACK_LOADER)
 
 /* A new board of this depth, 0 to 3: slot 1, highest ticket 0, no racks. Refuses with 1; the board is then all zero. */
-#define OVEN_STACK_OPEN 12288
+#define OVEN_STACK_OPEN OVEN_STACK_BOARDS(2)
 oven_opened oven_open(uint32_t depth);
 
 /*
  * Whether a board is sound. A board that comes back from opening, admitting, closing or withdrawing is, unless the number is 1 or 2.
  */
-#define OVEN_STACK_SOUND 12288
+#define OVEN_STACK_SOUND OVEN_STACK_BOARDS(2)
 bool oven_sound(oven_board board);
 
 /*
  * Admits a rack in the present slot and answers its last slot. Tickets rise: each is above all before it. Refuses with 2, 3, 4, 5,
  * 6 or 7; the board then comes back as it was.
  */
-#define OVEN_STACK_ADMIT 24576
+#define OVEN_STACK_ADMIT OVEN_STACK_BOARDS(5)
 oven_admitted oven_admit(oven_board board, uint32_t ticket, oven_wait wait, uint32_t grade);
 
 /*
@@ -185,30 +187,30 @@ oven_admitted oven_admit(oven_board board, uint32_t ticket, oven_wait wait, uint
  * rising ticket; the entries after them keep what they had. Refuses with 2, 3 or 8; board and list are then as they were. `list`
  * points to `length` entries.
  */
-#define OVEN_STACK_CLOSE_INTO 49152
+#define OVEN_STACK_CLOSE_INTO OVEN_STACK_BOARDS(9)
 oven_closed oven_close_into(oven_board board, oven_entry *list, size_t length);
 
 /*
  * The same with the list in three parts: tickets, grades, and the slots of admitting. A rack given up has the same place in each.
  * The list has as many entries as its shortest part. The parts do not overlap.
  */
-#define OVEN_STACK_CLOSE 40960
+#define OVEN_STACK_CLOSE OVEN_STACK_BOARDS(8)
 oven_closed oven_close(oven_board board, uint32_t *tickets, size_t tickets_length, uint8_t *grades, size_t grades_length,
                        oven_slot *slots, size_t slots_length);
 
 /*
- * What can still be promised: the least wait, 1 to 32, such that some plan from the present slot on bakes one rack more of that wait
- * and every rack on the board, if nothing else arrives; slots past the book's last count. Then it can be promised with a longer wait
- * too. 0 says that there is no such wait. Refuses with 2 or 3. The board stays as it is.
+ * What can still be promised: the least wait, 1 to OVEN_LONGEST_WAIT, such that some plan from the present slot on bakes one rack more
+ * of that wait and every rack on the board, if nothing else arrives; slots past the book's last count. Then it can be promised with a
+ * longer wait too. 0 says that there is no such wait. Refuses with 2 or 3. The board stays as it is.
  */
-#define OVEN_STACK_PROMISE 16384
+#define OVEN_STACK_PROMISE OVEN_STACK_BOARDS(3)
 oven_promised oven_promise(oven_board board);
 
 /*
  * Withdraws a rack that is waiting since an earlier slot: takes it off the board and answers its grade. Slot and highest ticket stay,
  * so the ticket is not admitted again. Refuses with 2, 3 or 17; the board then comes back as it was.
  */
-#define OVEN_STACK_WITHDRAW 32768
+#define OVEN_STACK_WITHDRAW OVEN_STACK_BOARDS(6)
 oven_withdrawn oven_withdraw(oven_board board, uint32_t ticket);
 
 /* A tally with every count 0. */
@@ -220,18 +222,18 @@ oven_tally oven_zero(void);
 uint8_t oven_note(oven_tally *tally, uint32_t kind, uint32_t grade);
 
 /* The same with the tally by value: the answer has the tally after the event. */
-#define OVEN_STACK_COUNT 5120
+#define OVEN_STACK_COUNT (1024 + OVEN_STACK_LOADER)
 oven_counted oven_count(oven_tally tally, uint32_t kind, uint32_t grade);
 
 /* A page without closings. */
-#define OVEN_STACK_PAGE_NEW 5120
+#define OVEN_STACK_PAGE_NEW (1024 + OVEN_STACK_LOADER)
 oven_page oven_page_new(void);
 
 /*
  * Hands a closing to the page; the answer has the page with it. A full page takes no more: the closing begins the next page and is
  * alone on it, so a page is printed once it is full. Refuses with 16; the page then comes back as it was.
  */
-#define OVEN_STACK_PAGE_HAND_OVER 8192
+#define OVEN_STACK_PAGE_HAND_OVER (4096 + OVEN_STACK_LOADER)
 oven_handed_over oven_page_hand_over(oven_page page, oven_figures closing);
 
 /* Whether the page is full: it has 48 closings. */
@@ -243,7 +245,7 @@ bool oven_page_full(oven_page page);
  * the bytes after them keep what they had. `out` points to `length` bytes; where these are fewer it writes nothing and answers 0.
  * A figure past the limits of number 16, which only a page written by the caller has, shows the last digits that fit.
  */
-#define OVEN_STACK_PAGE_PRINT 8192
+#define OVEN_STACK_PAGE_PRINT (4096 + OVEN_STACK_LOADER)
 size_t oven_page_print(oven_page page, uint8_t *out, size_t length);
 
 #ifdef __cplusplus

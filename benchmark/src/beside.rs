@@ -3,7 +3,7 @@
 use crate::calls::PASSES;
 use crate::days::{Day, Ran};
 use crate::tables::{growth, head, of, quotient, row, time};
-use crate::timed::{keep_least, other_lists, Timed};
+use crate::timed::{called, keep_least, other_lists, Timed};
 use std::io;
 use std::process::{Command, Stdio};
 use std::time::Duration;
@@ -58,9 +58,11 @@ fn calls(this: &str, other: &str) -> io::Result<usize> {
         keep_least(&mut there, pass(other)?);
     }
     head(&COLUMNS);
-    for (here, there) in here.iter().zip(&there) {
+    for here in &here {
+        let there = called(&there, &here.name);
         let [ours, model, sorting] = [0, 1, 2].map(|side| here.times.get(side));
-        let [theirs, model_there, sorting_there] = [0, 1, 2].map(|side| there.times.get(side));
+        let [theirs, model_there, sorting_there] =
+            [0, 1, 2].map(|side| there.and_then(|call| call.times.get(side)));
         row(&[
             here.name.clone(),
             time(ours),
@@ -84,15 +86,15 @@ fn calls(this: &str, other: &str) -> io::Result<usize> {
 
 /// Where the model and the program that sorts are the same in both processes, their times should be.
 fn unsteadiness(here: &[Timed], there: &[Timed]) {
-    let pairs = here.iter().zip(there);
+    let pairs = here
+        .iter()
+        .filter_map(|call| Some((call, called(there, &call.name)?)));
     let same = pairs.flat_map(|(here, there)| here.times.iter().zip(&there.times).skip(1));
     let mut quotients: Vec<f64> = same.map(|(here, there)| quotient(*here, *there)).collect();
     quotients.sort_by(f64::total_cmp);
-    println!(
-        "\nModel and sorting, timed beside either side: their times here are {:.2} to {:.2} of those there.",
-        quotients[0],
-        quotients[quotients.len() - 1]
-    );
+    if let (Some(least), Some(most)) = (quotients.first(), quotients.last()) {
+        println!("\nModel and sorting, timed beside either side: their times here are {least:.2} to {most:.2} of those there.");
+    }
 }
 
 fn cells(day: &Day, ran: &[Ran]) -> Vec<String> {

@@ -6,6 +6,7 @@ use crate::timed::Timed;
 use model::board::{Board, Job};
 use model::calls::{self, Closed, Expired};
 use model::draw::Draw;
+use model::limits::{LONGEST_LAXITY, MOST_HELD, MOST_PER_SLOT};
 use model::samples;
 use model::soundness::is_sound;
 use oven::{Slot, Wait};
@@ -19,8 +20,11 @@ const ROUNDS: u32 = 5;
 /// In each pass every call has its rounds.
 pub const PASSES: u32 = 20;
 
+/// Racks on a full board.
+const FULL: u32 = MOST_HELD as u32;
+
 /// How many racks a board holds, and which shapes it has at each of these sizes.
-pub const SIZES: [u32; 4] = [32, 64, 128, 256];
+pub const SIZES: [u32; 4] = [FULL / 8, FULL / 4, FULL / 2, FULL];
 pub const SHAPES: [Shape; 3] = [Shape::Spread, Shape::OneGrade, Shape::OneWait];
 
 /// How waits and grades lie on a board. Where there is one wait, this slot is the last of every rack.
@@ -33,27 +37,37 @@ pub enum Shape {
 }
 
 impl Shape {
-    pub fn name(self) -> &'static str {
+    /// The longest wait is named, since boards with another one are not the same.
+    pub fn name(self) -> String {
         match self {
-            Shape::Spread => "waits and grades spread",
-            Shape::OneGrade => "one grade",
-            Shape::OneWait => "one wait",
-            Shape::AdmittedWithLongest => "each admitted with the longest wait",
+            Shape::Spread => format!("waits to {LONGEST_LAXITY} and grades spread"),
+            Shape::OneGrade => format!("waits to {LONGEST_LAXITY} spread, one grade"),
+            Shape::OneWait => "one wait, grades spread".into(),
+            Shape::AdmittedWithLongest => {
+                format!("each admitted with wait {LONGEST_LAXITY}, grades spread")
+            }
         }
     }
 }
 
-/// A sound board of depth 3 in slot 100 that holds so many racks, eight of each slot that has any.
+/// What the closing of a board of so many racks is called.
+pub fn closing_name(held: u32, shape: Shape) -> String {
+    format!("closing, {held} racks, {}", shape.name())
+}
+
+/// A sound board of depth 3 in slot 100 that holds so many racks, eight of each slot that has any but the last, which may have fewer.
 fn board(held: u32, shape: Shape) -> Board {
     let (slot, mut draw) = (100, Draw::new(7));
-    let first = slot + 1 - (held + 7) / 8;
+    let eight = MOST_PER_SLOT as u32;
+    let first = slot + 1 - (held + eight - 1) / eight;
     let jobs: Vec<Job> = (0..held)
         .map(|i| {
-            let admitted = first + i / 8;
+            let admitted = first + i / eight;
+            let latest = admitted + LONGEST_LAXITY - 1;
             let deadline = match shape {
                 Shape::OneWait => slot,
-                Shape::AdmittedWithLongest => admitted + 31,
-                _ => draw.between(slot, admitted + 31),
+                Shape::AdmittedWithLongest => latest,
+                _ => draw.between(slot, latest),
             };
             let grade = match shape {
                 Shape::OneGrade => 5,
@@ -106,17 +120,22 @@ fn least(sides: &mut [&mut dyn FnMut()]) -> Vec<Duration> {
 
 fn close_by_sorting(board: &mut Board) -> Closed {
     let find = |jobs: &[Job], slot, depth| benchmark::job_to_bake(&mut jobs.to_vec(), slot, depth);
-    calls::close_by(board, 256, find).expect("a sound board")
+    calls::close_by(board, MOST_HELD, find).expect("a sound board")
 }
 
 fn close_by_model(board: &mut Board) -> Closed {
-    calls::close(board, 256).expect("a sound board")
+    calls::close(board, MOST_HELD).expect("a sound board")
+}
+
+/// A list to lend in three parts, for as many racks as a board holds, with nothing in it.
+fn cleared() -> ([u32; MOST_HELD], [u8; MOST_HELD], [Slot; MOST_HELD]) {
+    ([0; MOST_HELD], [0; MOST_HELD], [Slot(0); MOST_HELD])
 }
 
 /// All sides close the board, bake the same rack, give up as many and have the same shortfall. Tells whether our side's lists are the model's, in its
 /// order.
 fn check(board: &Board) -> bool {
-    let (mut tickets, mut grades, mut slots) = ([0; 256], [0; 256], [Slot(0); 256]);
+    let (mut tickets, mut grades, mut slots) = cleared();
     let given = convert::board(board);
     let ours = oven::calls::close(given, &mut tickets, &mut grades, &mut slots);
     let model = close_by_model(&mut board.clone());
@@ -137,7 +156,7 @@ fn closing(held: u32, shape: Shape) -> Timed {
     let board = board(held, shape);
     let same_lists = check(&board);
     let given = convert::board(&board);
-    let (mut tickets, mut grades, mut slots) = ([0; 256], [0; 256], [Slot(0); 256]);
+    let (mut tickets, mut grades, mut slots) = cleared();
     let times = least(&mut [
         &mut || {
             keep(oven::calls::close(
@@ -151,7 +170,7 @@ fn closing(held: u32, shape: Shape) -> Timed {
         &mut || keep(close_by_sorting(&mut black_box(board.clone()))),
     ]);
     Timed {
-        name: format!("closing, {held} racks, {}", shape.name()),
+        name: closing_name(held, shape),
         same_lists,
         times,
     }
@@ -159,16 +178,16 @@ fn closing(held: u32, shape: Shape) -> Timed {
 
 /// Admits one rack more on a board. Admitting has no search, so there is nothing to sort.
 fn admitting() -> Timed {
-    let board = board(255, Shape::Spread);
+    let board = board(FULL - 1, Shape::Spread);
     let given = convert::board(&board);
-    assert_eq!(0, oven::calls::admit(given, 256, Wait(9), 4).refusal);
-    assert_eq!(Ok(108), calls::admit(&mut board.clone(), 256, 9, 4));
+    assert_eq!(0, oven::calls::admit(given, FULL, Wait(9), 4).refusal);
+    assert_eq!(Ok(108), calls::admit(&mut board.clone(), FULL, 9, 4));
     let times = least(&mut [
-        &mut || keep(oven::calls::admit(black_box(given), 256, Wait(9), 4)),
-        &mut || keep(calls::admit(&mut black_box(board.clone()), 256, 9, 4)),
+        &mut || keep(oven::calls::admit(black_box(given), FULL, Wait(9), 4)),
+        &mut || keep(calls::admit(&mut black_box(board.clone()), FULL, 9, 4)),
     ]);
     Timed {
-        name: "admitting on 255 racks, waits and grades spread".into(),
+        name: format!("admitting on {} racks, {}", FULL - 1, Shape::Spread.name()),
         same_lists: true,
         times,
     }
@@ -176,8 +195,8 @@ fn admitting() -> Timed {
 
 /// Withdraws a rack from the midst of a full board. There is nothing to sort here either.
 fn withdrawing() -> Timed {
-    let board = board(256, Shape::Spread);
-    let (given, ticket) = (convert::board(&board), 128);
+    let board = board(FULL, Shape::Spread);
+    let (given, ticket) = (convert::board(&board), FULL / 2);
     let ours = oven::calls::withdraw(given, ticket);
     let grade = calls::withdraw(&mut board.clone(), ticket);
     assert_eq!((0, grade), (ours.refusal, Ok(ours.grade.into())));
@@ -186,14 +205,14 @@ fn withdrawing() -> Timed {
         &mut || keep(calls::withdraw(&mut black_box(board.clone()), ticket)),
     ]);
     Timed {
-        name: "withdrawing from 256 racks, waits and grades spread".into(),
+        name: format!("withdrawing from {FULL} racks, {}", Shape::Spread.name()),
         same_lists: true,
         times,
     }
 }
 
 /// Asks what can be promised on a board of this kind. Sorting checks soundness as the model does, and sorts a copy of the racks.
-fn promising(name: &str, board: Board) -> Timed {
+fn promising(left: &str, board: Board) -> Timed {
     let given = convert::board(&board);
     let by_sorting = |board: &Board| {
         assert!(is_sound(board));
@@ -208,7 +227,7 @@ fn promising(name: &str, board: Board) -> Timed {
         &mut || keep(by_sorting(black_box(&board))),
     ]);
     Timed {
-        name: format!("promising on {name}"),
+        name: format!("promising on {} racks, {left}", board.held()),
         same_lists: true,
         times,
     }
@@ -225,10 +244,10 @@ fn opening() -> Timed {
 
 /// Asks whether a full board is sound, which is a part of every closing and admitting.
 fn soundness() -> Timed {
-    let given = convert::board(&board(256, Shape::Spread));
+    let given = convert::board(&board(FULL, Shape::Spread));
     assert!(oven::calls::sound(given));
     Timed {
-        name: "soundness of 256 racks".into(),
+        name: format!("soundness of {FULL} racks"),
         same_lists: true,
         times: least(&mut [&mut || keep(oven::calls::sound(black_box(given)))]),
     }
@@ -240,11 +259,11 @@ pub fn pass() -> Vec<Timed> {
     for shape in SHAPES {
         all.extend(SIZES.iter().map(|&held| closing(held, shape)));
     }
-    all.push(closing(256, Shape::AdmittedWithLongest));
+    all.push(closing(FULL, Shape::AdmittedWithLongest));
     all.extend([admitting(), opening(), soundness()]);
-    let filled = samples::filled_board(&mut Draw::new(7), 100, 31, 0);
-    all.push(promising("31 racks, wait 32 left", filled));
-    all.push(promising("256 racks, none left", board(256, Shape::Spread)));
+    let filled = samples::filled_board(&mut Draw::new(7), 100, LONGEST_LAXITY - 1, 0);
+    all.push(promising(&format!("wait {LONGEST_LAXITY} left"), filled));
+    all.push(promising("none left", board(FULL, Shape::Spread)));
     all.push(withdrawing());
     all
 }

@@ -1,6 +1,7 @@
 //! Whole days through the programs, bytes in to bytes out.
 
 use model::draw::Draw;
+use model::limits::LONGEST_LAXITY;
 use std::collections::hash_map::DefaultHasher;
 use std::fmt::Write as _;
 use std::fs::{self, File};
@@ -11,7 +12,7 @@ use std::process::{self, Command};
 use std::time::{Duration, Instant};
 use std::{env, thread};
 
-/// A day of depth 3: so many slots, so many racks in each, their waits from the shortest to 32. Each program runs so many times.
+/// A day of depth 3: so many slots, so many racks in each, their waits from the shortest to the longest. Each program runs so many times.
 pub struct Day {
     pub slots: u32,
     racks: u32,
@@ -34,7 +35,7 @@ const DAYS: [Day; 7] = [
     day(50_000, 8, 1, 5),
     day(100_000, 8, 1, 5),
     day(100_000, 2, 1, 5),
-    day(20_000, 8, 32, 5),
+    day(20_000, 8, LONGEST_LAXITY, 5),
     day(1_000_000, 2, 1, 3),
     day(1_000_000, 8, 1, 3),
 ];
@@ -51,8 +52,8 @@ impl Day {
     pub fn name(&self) -> String {
         let Day { slots, racks, .. } = self;
         let waits = match self.shortest {
-            32 => "every wait 32",
-            _ => "waits spread",
+            LONGEST_LAXITY => format!("every wait {LONGEST_LAXITY}"),
+            _ => format!("waits to {LONGEST_LAXITY} spread"),
         };
         format!("a day of {slots} slots, {racks} racks each, {waits}")
     }
@@ -62,7 +63,10 @@ impl Day {
         let mut text = String::from("D,3\n");
         for slot in 0..self.slots {
             for rack in 1..=self.racks {
-                let (wait, grade) = (draw.between(self.shortest, 32), draw.between(0, 7));
+                let (wait, grade) = (
+                    draw.between(self.shortest, LONGEST_LAXITY),
+                    draw.between(0, 7),
+                );
                 let _ = writeln!(text, "A,{},{wait},{grade}", slot * self.racks + rack);
             }
             text.push_str("B\n");

@@ -1,7 +1,7 @@
 //! Tables of what was timed.
 
-use crate::calls::{SHAPES, SIZES};
-use crate::timed::Timed;
+use crate::calls::{closing_name, Shape, SHAPES, SIZES};
+use crate::timed::{called, Timed};
 use std::time::Duration;
 
 pub fn row<T: AsRef<str>>(cells: &[T]) {
@@ -9,7 +9,7 @@ pub fn row<T: AsRef<str>>(cells: &[T]) {
     println!("| {} |", cells.join(" | "));
 }
 
-pub fn head(cells: &[&str]) {
+pub fn head<T: AsRef<str>>(cells: &[T]) {
     println!();
     row(cells);
     row(&vec!["---"; cells.len()]);
@@ -36,26 +36,34 @@ pub fn quotient(time: Duration, other: Duration) -> f64 {
     time.as_secs_f64() / other.as_secs_f64()
 }
 
-/// How the closings' times grow with the racks held. Each side has a name, the calls' times, and its place among these.
+/// How the closings' times grow with the racks held. Each side has a name, the calls' times, and its place among these; a side that has not closed
+/// these boards has no row.
 pub fn growth(sides: &[(&str, &[Timed], usize)]) {
-    head(&[
-        "closing",
-        "side",
-        "a rack more, 32 to 64",
-        "64 to 128",
-        "128 to 256",
-        "256 of 32",
-    ]);
-    for (i, shape) in SHAPES.iter().enumerate() {
+    let mut columns = vec!["closing".to_string(), "side".to_string()];
+    columns.extend(
+        SIZES
+            .windows(2)
+            .map(|pair| format!("a rack more, {} to {}", pair[0], pair[1])),
+    );
+    columns.push(format!("{} of {}", SIZES[SIZES.len() - 1], SIZES[0]));
+    head(&columns);
+    for shape in SHAPES {
         for (side, calls, place) in sides {
-            let closings = &calls[i * SIZES.len()..][..SIZES.len()];
-            let times: Vec<Duration> = closings.iter().map(|call| call.times[*place]).collect();
-            let mut cells = vec![shape.name().into(), side.to_string()];
+            let Some(times) = closings(calls, shape, *place) else {
+                continue;
+            };
+            let mut cells = vec![shape.name(), side.to_string()];
             cells.extend(each_rack_more(&times));
             cells.push(of(times.last(), times.first()));
             row(&cells);
         }
     }
+}
+
+/// One side's times of the closings of this shape, size by size, if all are among these calls.
+fn closings(calls: &[Timed], shape: Shape, place: usize) -> Option<Vec<Duration>> {
+    let time = |held| Some(called(calls, &closing_name(held, shape))?.times[place]);
+    SIZES.into_iter().map(time).collect()
 }
 
 /// What a rack more takes, from each size to the next. Where time grows in proportion, it is the same everywhere.

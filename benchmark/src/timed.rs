@@ -36,6 +36,11 @@ impl Timed {
     }
 }
 
+/// The call of this name, if it is among these.
+pub fn called<'a>(calls: &'a [Timed], name: &str) -> Option<&'a Timed> {
+    calls.iter().find(|call| call.name == name)
+}
+
 /// In how many of these calls our side's lists are not the model's.
 pub fn other_lists(calls: &[Timed]) -> usize {
     calls.iter().filter(|call| !call.same_lists).count()

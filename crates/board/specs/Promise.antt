@@ -15,7 +15,7 @@ use Rattle.board.specs.Sound.{sound}
 unfoldable pub promise-number : Board → ℕ
 promise-number b = first-given (2 if not (sound b) ∷ promise-rows (slot-of b))
 
--- 'w the least wait from 1 to 32', with all jobs on the board, whichever slot they were admitted in
+-- 02, Eight: 'The promise line looks at 1 to 24', with all jobs on the board, whichever slot they were admitted in
 unfoldable pub promise-of : Board → ℕ
 promise-of b = least-promised longest-laxity (slot-of b) (held b)
 

@@ -25,8 +25,9 @@ first-given (r ∷ rows) = cond (r .given) (r .number) (first-given rows)
 abbrev pub book-ended : (slot : ℕ) → Row
 book-ended slot = 3 if eqb slot (suc last-slot)
 
--- Rows 3 to 7, for admitting: row 3, 'ticket not above the highest so far', 'wait not 1 to 32', 'grade not below 2^D', 'eight racks on the
--- board were admitted in this slot'. They read a slot, a highest ticket, the number of jobs admitted in that slot and a depth: the board's, or the day book's.
+-- Rows 3 to 7, for admitting: row 3, 'ticket not above the highest so far', 'Waits are 1 to 24 now; 25 gets number 5' (02, Eight), 'grade not below 2^D',
+-- 'eight racks on the board were admitted in this slot'. They read a slot, a highest ticket, the number of jobs admitted in that slot and a depth: the
+-- board's, or the day book's.
 unfoldable pub admit-rows : (slot highest in-slot depth ticket laxity grade : ℕ) → List Row
 admit-rows slot highest in-slot depth ticket laxity grade =
     book-ended slot
@@ -36,7 +37,7 @@ admit-rows slot highest in-slot depth ticket laxity grade =
     ∷ 7 if leb most-in-slot in-slot
     ∷ []
 
--- Rows 3 and 8, for closing with a lent list of so many entries: row 3, 'lent list has fewer than 256 entries'.
+-- Rows 3 and 8, for closing with a lent list of so many entries: row 3, and '8 is for fewer than 192 entries' (02, Eight).
 unfoldable pub close-rows : (slot lent : ℕ) → List Row
 close-rows slot lent =
     book-ended slot

@@ -1,4 +1,4 @@
--- When a board is sound: 01's conditions, a clause for each, and all of them in 01's order.
+-- When a board is sound: 01's conditions, of the board that 02, Eight makes smaller, a clause for each, and all of them in 01's order.
 use mathlib.Core.Bool.{Bool}
 use mathlib.Core.List.{List, [], _∷_, map}
 use Prim.Native.Nat.{suc, _-_, _^_}
@@ -12,7 +12,7 @@ use Rattle.board.specs.declared.Board.{Board}
 use Rattle.board.specs.Limits.{longest-laxity, most-in-slot, places-held, last-slot, deepest}
 use Rattle.board.specs.Held.{slot-of, held}
 
--- 'A board holds [..] 256 places': here places are a list
+-- 'A board has 192 places': here places are a list
 abbrev pub has-all-places : Board → Bool
 has-all-places b = eqb (length (b .places)) places-held
 
@@ -28,7 +28,7 @@ slot-from-one b = leb 1 (slot-of b)
 abbrev pub slot-to-end : Board → Bool
 slot-to-end b = leb (slot-of b) (suc last-slot)
 
--- 'count is at most 256'
+-- 'count is at most' the number of places
 abbrev pub count-in-range : Board → Bool
 count-in-range b = leb (b .count) places-held
 
@@ -67,7 +67,7 @@ admitted-by-now b = every (λ (r : Job). leb (r .admitted) (slot-of b)) (held b)
 abbrev pub in-date : Board → Bool
 in-date b = every (λ (r : Job). leb (slot-of b) (r .last)) (held b)
 
--- 'for each rack [..] last slot − admitted slot ≤ 31': below the longest laxity
+-- 'a sound rack has last slot − admitted slot at most 23': below the longest laxity
 abbrev pub laxity-in-range : Board → Bool
 laxity-in-range b = every (λ (r : Job). ltb (r .last - r .admitted) longest-laxity) (held b)
 

@@ -50,13 +50,13 @@ pub struct Board {
 
 impl Board {
     // Longest wait.
-    pub const LONGEST_LAXITY: u32 = 32;
+    pub const LONGEST_LAXITY: u32 = 24;
 
     // Most racks admitted in a slot.
     pub const MOST_IN_SLOT: usize = 8;
 
     // Most racks held.
-    pub const PLACES: usize = 256;
+    pub const PLACES: usize = 192;
 
     // Last slot of a book.
     pub const LAST_SLOT: u32 = 1_000_000;

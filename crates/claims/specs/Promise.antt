@@ -10,8 +10,9 @@ use Rattle.board.specs.Sound.{sound}
 use Rattle.board.specs.Promise.{promise-of, promised}
 
 pub record PromiseSays (b : Board) : Type 0 where
-  -- 'w the least wait from 1 to 32 such that some plan from the present slot on bakes one further rack of wait w and every rack on the board, nobody else
-  -- arriving, the book taken as endless. It gives 0 if, and only if, there is no such wait.' The further job has any ticket that is new, and any grade.
+  -- 'w the least wait from 1 to' the longest 'such that some plan from the present slot on bakes one further rack of wait w and every rack on the board,
+  -- nobody else arriving, the book taken as endless. It gives 0 if, and only if, there is no such wait.' The further job has any ticket that is new, and any
+  -- grade.
   pub still : (ticket grade : ℕ) → b .highest < ticket → StillPromised longest-laxity (slot-of b) (held b) ticket grade (promise-of b)
   -- the answer carries it, where it is not refused
   pub carried : promised b .refusal ≡ 0 → promised b .laxity .0 ≡ promise-of b

@@ -10,7 +10,7 @@ use Rattle.board.specs.Limits.{longest-laxity, deepest}
 use Rattle.board.specs.Held.{slot-of, held}
 
 -- A job that could stand on a sound board of depth d in the slot `now`: 'depth is at most 3', 'Tickets are 32-bit numbers, 1 to 4,294,967,295',
--- 'present slot ≤ last slot', 'Longest wait 32', 'grades are below 2^D'.
+-- 'present slot ≤ last slot', no more than the longest wait, 'grades are below 2^D'.
 unfoldable pub seen-job : (now d : ℕ) → Job → Bool
 seen-job now d r =
     every (λ (passed : Bool). passed)

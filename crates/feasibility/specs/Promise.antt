@@ -24,7 +24,7 @@ NoPromise longest now A t g = (v : ℕ) → 1 ≤ v → v ≤ longest → ¬ Can
 
 -- w is the answer to 'What can we still promise?', for a further job of this ticket and grade
 pub record StillPromised (longest now : ℕ) (A : List Job) (ticket grade w : ℕ) : Type 0 where
-  -- 'w the least wait from 1 to 32 such that some plan [..]'
+  -- 'w the least wait from 1 to' the longest 'such that some plan [..]'
   pub within : w ≤ longest
   pub kept : 1 ≤ w → CanPromise now A ticket grade w
   pub least : (v : ℕ) → 1 ≤ v → v < w → ¬ CanPromise now A ticket grade v

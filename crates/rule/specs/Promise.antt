@@ -15,7 +15,7 @@ with-further now A t w g = A ++ (job t now w g ∷ [])
 unfoldable pub fits : (now : ℕ) → List Job → (laxity : ℕ) → Bool
 fits now A w = eqb (shortfall now (with-further now A 0 w 0)) 0
 
--- 'the least wait from 1 to 32 such that some plan from the present slot on bakes one further rack of wait w and every rack on the board [..]. It gives 0
--- if, and only if, there is no such wait.' That these are the plans' words is `PromisedLeast` (feasibility).
+-- 'the least wait from 1 to' the longest 'such that some plan from the present slot on bakes one further rack of wait w and every rack on the board [..]. It
+-- gives 0 if, and only if, there is no such wait.' That these are the plans' words is `PromisedLeast` (feasibility).
 unfoldable pub least-promised : (longest now : ℕ) → List Job → ℕ
 least-promised longest now A = least-passing (fits now A) longest

@@ -80,11 +80,11 @@ pub struct Closed {
 
 impl Board {
     /// Longest wait.
-    pub const LONGEST_WAIT: Wait = Wait(32);
+    pub const LONGEST_WAIT: Wait = Wait(24);
     /// Most racks admitted in a slot.
     pub const MOST_IN_SLOT: usize = 8;
     /// Most racks held. A lent list has at least as many entries.
-    pub const PLACES: usize = 256;
+    pub const PLACES: usize = 192;
     /// Last slot of a book.
     pub const LAST_SLOT: Slot = Slot(1_000_000);
 
@@ -121,8 +121,9 @@ impl Board {
         })
     }
 
-    /// What can still be promised: the least wait, 1 to 32, such that some plan from the present slot on bakes one rack more of that
-    /// wait and every rack on the board, if nothing else arrives; none where there is no such wait. A longer wait can be promised too.
+    /// What can still be promised: the least wait, 1 to [`Board::LONGEST_WAIT`], such that some plan from the present slot on bakes one rack
+    /// more of that wait and every rack on the board, if nothing else arrives; none where there is no such wait. A longer wait can be
+    /// promised too.
     pub fn promise(&self) -> Result<Option<Wait>, PromiseRefusal> {
         let answer = calls::promise(*self);
         PromiseRefusal::from_number(answer.refusal)

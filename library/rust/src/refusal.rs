@@ -52,7 +52,7 @@ refusals! {
     Unsound = 2, "board not sound";
     BookEnded = 3, "slot is 1,000,001";
     Ticket = 4, "ticket not above the highest so far";
-    Wait = 5, "wait not 1 to 32";
+    Wait = 5, "wait is 0, or above the longest";
     Grade = 6, "grade not below 2^D";
     SlotFull = 7, "eight racks on the board were admitted in this slot";
 }
@@ -62,7 +62,7 @@ refusals! {
     CloseRefusal:
     Unsound = 2, "board not sound";
     BookEnded = 3, "slot is 1,000,001";
-    ListShort = 8, "lent list has fewer than 256 entries";
+    ListShort = 8, "lent list has fewer entries than a board has places";
 }
 
 refusals! {

@@ -5,6 +5,7 @@ use crate::refusals::{self, number};
 use model::board::{self, Board};
 use model::calls;
 use model::draw::Draw;
+use model::limits::LONGEST_LAXITY;
 use model::soundness::is_sound;
 use oven::Wait;
 
@@ -27,7 +28,8 @@ pub fn soundness(board: &Board) -> bool {
 pub fn admitting(draw: &mut Draw, board: &Board) -> bool {
     let above = board.highest_ticket.saturating_add(draw.between(0, 2));
     let ticket = draw.pick(&[above, above, above, 0, board.highest_ticket, u32::MAX]);
-    let wait = draw.pick(&[1, 2, 5, 31, 32, 33, 0, u32::MAX]);
+    let longest = LONGEST_LAXITY;
+    let wait = draw.pick(&[1, 2, 5, longest - 1, longest, longest + 1, 0, u32::MAX]);
     let grade = draw.pick(&[0, 0, 1, 3, 7, 8, u32::MAX]);
     admits(&mut board.clone(), ticket, wait, grade)
 }

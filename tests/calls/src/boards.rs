@@ -3,7 +3,7 @@
 use model::board::Board;
 use model::draw::Draw;
 use model::edges;
-use model::limits::LAST_SLOT;
+use model::limits::{LAST_SLOT, LONGEST_LAXITY, MOST_HELD};
 use model::samples;
 
 /// The kinds come round one by one: small, any size, full, any size and full with
@@ -13,9 +13,9 @@ pub fn board(draw: &mut Draw, number: u64) -> Board {
     let round = (number / 9) as usize;
     match number % 9 {
         0 => samples::board(draw, 7),
-        1 => samples::board(draw, 256),
+        1 => samples::board(draw, MOST_HELD as u32),
         2 => full(draw),
-        3 => samples::all_due(samples::board(draw, 256)),
+        3 => samples::all_due(samples::board(draw, MOST_HELD as u32)),
         4 => samples::all_due(full(draw)),
         5 => edges::BROKEN[round % edges::BROKEN.len()].1(draw),
         6 => edges::BOUNDARY[round % edges::BOUNDARY.len()].1(draw),
@@ -24,9 +24,9 @@ pub fn board(draw: &mut Draw, number: u64) -> Board {
     }
 }
 
-/// A board of 256 racks.
+/// A board with a rack in every place.
 fn full(draw: &mut Draw) -> Board {
-    let slot = draw.between(40, LAST_SLOT);
+    let slot = draw.between(LONGEST_LAXITY, LAST_SLOT);
     samples::full_board(draw, slot)
 }
 
@@ -40,7 +40,7 @@ fn changed(draw: &mut Draw) -> Board {
         0 => board.depth = draw.between(0, 255),
         1 => board.slot = board.slot.wrapping_add(step),
         2 => board.highest_ticket = board.highest_ticket.wrapping_add(step),
-        3 => board.count = draw.between(0, 300),
+        3 => board.count = draw.between(0, MOST_HELD as u32 + 9),
         4 => job.ticket = job.ticket.wrapping_add(step),
         5 => job.admitted = job.admitted.wrapping_add(step),
         6 => job.deadline = job.deadline.wrapping_add(step),

@@ -5,12 +5,25 @@ use crate::refusals::{self, number};
 use model::board::Board;
 use model::calls;
 use model::draw::Draw;
+use model::limits::MOST_HELD;
 use model::refusal::Refusal;
 use oven::calls::CloseAnswer;
 use oven::{Baked, CloseRefusal, Closed, Entry, Slot};
 
+/// The longest lent list.
+const LONGEST: usize = MOST_HELD + 44;
+
 /// Lengths of a lent list, often long enough.
-const LENGTHS: [usize; 8] = [0, 1, 255, 256, 256, 256, 257, 300];
+const LENGTHS: [usize; 8] = [
+    0,
+    1,
+    MOST_HELD - 1,
+    MOST_HELD,
+    MOST_HELD,
+    MOST_HELD,
+    MOST_HELD + 1,
+    LONGEST,
+];
 
 /// Closes with a list in parts that are often long enough.
 pub fn in_parts(draw: &mut Draw, board: &Board) -> bool {
@@ -22,7 +35,7 @@ pub fn in_parts(draw: &mut Draw, board: &Board) -> bool {
     let lent = if draw.one_in(3) {
         lent
     } else {
-        [256, 260, 256]
+        [MOST_HELD, MOST_HELD + 4, MOST_HELD]
     };
     closes_in_parts(draw, &mut board.clone(), lent)
 }
@@ -36,7 +49,7 @@ pub fn into_list(draw: &mut Draw, board: &Board) -> bool {
 /// Closes on a board of the model, and on the same with a list in parts of these lengths.
 pub fn closes_in_parts(draw: &mut Draw, board: &mut Board, lent: [usize; 3]) -> bool {
     let given = convert::board(board);
-    let before = entries(draw, 300);
+    let before = entries(draw, LONGEST);
     let mut tickets = part(&before[..lent[0]], |entry| entry.ticket);
     let mut grades = part(&before[..lent[1]], |entry| entry.grade);
     let mut slots = part(&before[..lent[2]], |entry| entry.admitted);

@@ -19,6 +19,7 @@ mod tallies;
 mod withdrawing;
 
 use model::draw::Draw;
+use model::limits::{LONGEST_LAXITY, MOST_HELD};
 use model::samples;
 use std::process;
 
@@ -44,17 +45,13 @@ fn run(draw: &mut Draw) -> bool {
         }
         if draw.one_in(3) {
             if draw.one_in(2) {
-                return closing::closes_into(draw, &mut board, 256);
+                return closing::closes_into(draw, &mut board, MOST_HELD);
             }
-            let lent = if draw.one_in(9) {
-                [255, 256, 256]
-            } else {
-                [256, 256, 256]
-            };
-            return closing::closes_in_parts(draw, &mut board, lent);
+            let tickets = MOST_HELD - usize::from(draw.one_in(9));
+            return closing::closes_in_parts(draw, &mut board, [tickets, MOST_HELD, MOST_HELD]);
         }
         let ticket = board.highest_ticket.saturating_add(draw.between(0, 3));
-        let (wait, grade) = (draw.between(0, 33), draw.between(0, 8));
+        let (wait, grade) = (draw.between(0, LONGEST_LAXITY + 1), draw.between(0, 8));
         admitting::admits(&mut board, ticket, wait, grade)
     })
 }

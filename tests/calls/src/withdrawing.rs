@@ -5,6 +5,7 @@ use crate::refusals::{self, number};
 use model::board::Board;
 use model::calls;
 use model::draw::Draw;
+use model::limits::MOST_HELD;
 use model::samples;
 
 /// Withdraws a ticket on a board of the model, and by both layers of the crate on the same. Each goes on with the board
@@ -52,7 +53,7 @@ pub fn withdrawing(draw: &mut Draw, board: &Board) -> bool {
 /// One withdrawal that is let through, on a board with a rack of an earlier slot.
 pub fn let_through(draw: &mut Draw) -> bool {
     let (mut board, ticket) = loop {
-        let board = samples::board(draw, 256);
+        let board = samples::board(draw, MOST_HELD as u32);
         if let Some(ticket) = samples::to_withdraw(draw, &board) {
             break (board, ticket);
         }

@@ -1,6 +1,7 @@
 //! The inputs.
 
 use model::inputs::{Kind, KINDS};
+use model::limits::{LONGEST_LAXITY, MOST_PER_SLOT};
 
 /// Bytes that the program reads at once, at the most.
 const READ_BUFFER: usize = 65_536;
@@ -56,8 +57,10 @@ fn sample() -> Case {
 
 /// 01's board 9 as far as lines can say it; its last slot is in the kind `end`.
 fn board_nine() -> Case {
-    let mut bytes = b"D,0\nA,1,32,0\nA,2,33,0\nA,2,0,0\nA,1,1,0\nA,1,99,0\n".to_vec();
-    let mut expected = b"D,0\nA,1,32\nR,3,5\nR,4,5\nR,5,4\nR,6,4\n".to_vec();
+    let (longest, longer) = (LONGEST_LAXITY, LONGEST_LAXITY + 1);
+    let waits = format!("D,0\nA,1,{longest},0\nA,2,{longer},0\nA,2,0,0\nA,1,1,0\nA,1,{longer},0\n");
+    let mut bytes = waits.into_bytes();
+    let mut expected = format!("D,0\nA,1,{longest}\nR,3,5\nR,4,5\nR,5,4\nR,6,4\n").into_bytes();
     for ticket in 2..=8 {
         bytes.extend(format!("A,{ticket},5,0\n").bytes());
         expected.extend(format!("A,{ticket},5\n").bytes());
@@ -135,32 +138,43 @@ fn promise() -> Case {
     }
 }
 
-/// Racks of wait 32, eight in each of four slots, and four more: they take all slots up
-/// to the longest wait, so nothing can be promised, though none is lost.
+/// Racks of the longest wait, eight in each slot: each slot bakes one, and seven more are left. In the last slot so many
+/// come that there are as many racks as slots up to the longest wait, so nothing can be promised, though none is lost.
 fn sold_out() -> Case {
     let (mut bytes, mut expected) = (b"D,0\n".to_vec(), b"D,0\n".to_vec());
     let mut line = |asked: String, told: String| {
         bytes.extend(asked.bytes());
         expected.extend(told.bytes());
     };
-    for slot in 1..=4 {
-        for ticket in 8 * slot - 7..=8 * slot {
+    let (longest, eight) = (LONGEST_LAXITY, MOST_PER_SLOT as u32);
+    let slots = (longest - 1) / (eight - 1);
+    for slot in 1..=slots {
+        for ticket in eight * (slot - 1) + 1..=eight * slot {
             line(
-                format!("A,{ticket},32,0\n"),
-                format!("A,{ticket},{}\n", slot + 31),
+                format!("A,{ticket},{longest},0\n"),
+                format!("A,{ticket},{}\n", slot + longest - 1),
             );
         }
         line("B\n".to_string(), format!("B,{slot},{slot},0,0,0\n"));
     }
-    for (ticket, wait) in [(33, 1), (34, 1), (35, 1), (36, 0)] {
+    let (now, left) = (slots + 1, longest - (eight - 1) * slots);
+    for number in 1..=left {
+        let ticket = eight * slots + number;
         line(
-            format!("A,{ticket},32,0\nQ\n"),
-            format!("A,{ticket},36\nQ,{wait}\n"),
+            format!("A,{ticket},{longest},0\nQ\n"),
+            format!(
+                "A,{ticket},{}\nQ,{}\n",
+                slots + longest,
+                u32::from(number < left)
+            ),
         );
     }
     line(
         "B\nQ\n".to_string(),
-        "B,5,5,0,0,0\nQ,32\nT,0,36,5,0,0\n".to_string(),
+        format!(
+            "B,{now},{now},0,0,0\nQ,{longest}\nT,0,{},{now},0,0\n",
+            eight * slots + left
+        ),
     );
     Case {
         name: "sold out".to_string(),
