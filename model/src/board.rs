@@ -51,7 +51,8 @@ impl Board {
         board
     }
 
-    /// Number of racks; a damaged count above 256 is taken as 256 here.
+    /// Number of racks; a damaged count above the number of places is taken as that
+    /// number here.
     pub fn held(&self) -> usize {
         (self.count as usize).min(MOST_HELD)
     }

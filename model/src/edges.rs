@@ -31,7 +31,7 @@ pub const BROKEN: [Maker; 18] = [
 ];
 
 /// Each board is sound and meets the bound named exactly.
-pub const BOUNDARY: [Maker; 19] = [
+pub const BOUNDARY: [Maker; 20] = [
     ("depth 0", |draw| with_depth(draw, 0)),
     ("depth 3", |draw| with_depth(draw, DEEPEST)),
     ("slot 1", |draw| in_slot(draw, 1)),
@@ -40,15 +40,15 @@ pub const BOUNDARY: [Maker; 19] = [
     ("no racks at the end", |draw| {
         empty_in_slot(draw, LAST_SLOT + 1)
     }),
-    ("256 racks", |draw| {
+    ("all places but one", all_places_but_one),
+    ("all places", |draw| {
         samples::full_board(draw, LONGEST_LAXITY)
     }),
-    ("256 racks at the end", |draw| {
+    ("all places at the end", |draw| {
         samples::full_board(draw, LAST_SLOT + 1)
     }),
-    ("256 racks in their last slot", |draw| {
-        let slot = draw.between(LONGEST_LAXITY, LAST_SLOT);
-        samples::all_due(samples::full_board(draw, slot))
+    ("all places with racks in their last slot", |draw| {
+        samples::all_due(full_board(draw))
     }),
     ("tickets one apart from 1", tickets_from_one),
     ("greatest ticket", greatest_ticket),
@@ -84,8 +84,15 @@ fn roomy(draw: &mut Draw, slot: u32) -> Board {
 
 /// `roomy` in a slot that is far from either end of the book.
 fn midday(draw: &mut Draw) -> Board {
-    let slot = draw.between(40, LAST_SLOT - 40);
+    let far = 2 * LONGEST_LAXITY;
+    let slot = draw.between(far, LAST_SLOT - far);
     roomy(draw, slot)
+}
+
+/// A full board in a slot of the book.
+fn full_board(draw: &mut Draw) -> Board {
+    let slot = draw.between(LONGEST_LAXITY, LAST_SLOT);
+    samples::full_board(draw, slot)
 }
 
 /// The place of a random rack on the board.
@@ -113,7 +120,7 @@ fn slot_zero(draw: &mut Draw) -> Board {
 }
 
 fn slot_past_end(draw: &mut Draw) -> Board {
-    let slot = LAST_SLOT + draw.pick(&[2, 3, 33, 1_000_000]);
+    let slot = LAST_SLOT + draw.pick(&[2, 3, LONGEST_LAXITY + 1, 1_000_000]);
     roomy(draw, slot)
 }
 
@@ -121,7 +128,10 @@ fn slot_past_end(draw: &mut Draw) -> Board {
 fn count_too_great(draw: &mut Draw) -> Board {
     let slot = draw.between(LONGEST_LAXITY, LAST_SLOT + 1);
     let full = samples::full_board(draw, slot);
-    let count = MOST_HELD as u32 + draw.pick(&[1, 2, 256, 65_000]);
+    let places = MOST_HELD as u32;
+    let more = draw.between(3, places);
+    // One of these counts has the same low byte as the number of places.
+    let count = places + draw.pick(&[1, 2, more, 1 << 8, 65_000]);
     Board { count, ..full }
 }
 
@@ -168,9 +178,10 @@ fn ticket_above_highest(draw: &mut Draw) -> Board {
     board
 }
 
-/// Slot 0 is within 32 of the present one, so that nothing else is wrong.
+/// From slot 0 to the present one is less than the longest wait, so that nothing else is
+/// wrong.
 fn admitted_zero(draw: &mut Draw) -> Board {
-    let slot = draw.between(14, 20);
+    let slot = draw.between(14, LONGEST_LAXITY - 1);
     let mut board = roomy(draw, slot);
     board.places[0].admitted = 0;
     board.places[0].deadline = slot;
@@ -204,7 +215,8 @@ fn out_of_date(draw: &mut Draw) -> Board {
 fn span_too_long(draw: &mut Draw) -> Board {
     let mut board = midday(draw);
     let place = any_place(draw, &board);
-    let more = draw.pick(&[0, 1, 1000]);
+    let more = draw.between(2, LONGEST_LAXITY);
+    let more = draw.pick(&[0, 1, more, 1000]);
     board.places[place].deadline = board.places[place].admitted + LONGEST_LAXITY + more;
     board
 }
@@ -276,6 +288,14 @@ fn empty_in_slot(draw: &mut Draw, slot: u32) -> Board {
     Board::holding(draw.between(0, DEEPEST), slot, highest, &[])
 }
 
+fn all_places_but_one(draw: &mut Draw) -> Board {
+    let mut board = full_board(draw);
+    let mut jobs = board.jobs().to_vec();
+    jobs.remove(any_place(draw, &board));
+    board.put(&jobs);
+    board
+}
+
 fn tickets_from_one(draw: &mut Draw) -> Board {
     let mut board = midday(draw);
     for place in 0..board.held() {
@@ -294,7 +314,7 @@ fn greatest_ticket(draw: &mut Draw) -> Board {
 }
 
 fn admitted_in_first_slot(draw: &mut Draw) -> Board {
-    let slot = draw.between(14, 20);
+    let slot = draw.between(14, LONGEST_LAXITY);
     let mut board = roomy(draw, slot);
     board.places[0].admitted = 1;
     board.places[0].deadline = slot;

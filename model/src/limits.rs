@@ -1,13 +1,13 @@
 //! The numbers of the oven board, each written once.
 
 /// Longest wait of a rack.
-pub const LONGEST_LAXITY: u32 = 32;
+pub const LONGEST_LAXITY: u32 = 24;
 
 /// Most racks admitted in one slot.
 pub const MOST_PER_SLOT: usize = 8;
 
 /// Most racks held, which is also the least length of a lent list.
-pub const MOST_HELD: usize = 256;
+pub const MOST_HELD: usize = 192;
 
 /// Last slot of a book. A board that has closed it stands one further.
 pub const LAST_SLOT: u32 = 1_000_000;

@@ -1,9 +1,10 @@
 //! The promise: the least wait that one further rack can be given.
 //!
-//! 'The least wait from 1 to 32 such that some plan from the present slot on bakes one
-//! further rack of wait w and every rack on the board, nobody else arriving, the book
-//! taken as endless' (02, Six). The waits are tried one by one, each by laying out a
-//! plan. Slots are plain numbers here, so none is left out past the book's end.
+//! 'The least wait', from 1 to the longest one (02, Eight), 'such that some plan from the
+//! present slot on bakes one further rack of wait w and every rack on the board, nobody
+//! else arriving, the book taken as endless' (02, Six). The waits are tried one by one,
+//! each by laying out a plan. Slots are plain numbers here, so none is left out past the
+//! book's end.
 
 use crate::board::Job;
 use crate::limits::LONGEST_LAXITY;

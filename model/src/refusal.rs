@@ -11,13 +11,13 @@ pub enum Refusal {
     BookEnded = 3,
     /// The ticket is not above the highest so far.
     Ticket = 4,
-    /// The wait is not 1 to 32.
+    /// The wait is 0 or longer than the longest one.
     Laxity = 5,
     /// The grade is not below 2^D.
     Grade = 6,
     /// Eight racks were admitted in this slot already.
     SlotFull = 7,
-    /// The lent list has fewer than 256 entries.
+    /// The lent list has fewer entries than a board has places.
     ListShort = 8,
     /// Tally: kind above 3 or grade above 7.
     NoSuchCount = 9,

@@ -103,8 +103,8 @@ fn admitted_slots(draw: &mut Draw, oldest: u32, newest: u32, many: usize) -> Vec
     slots
 }
 
-/// The full board of this slot: eight racks from each of the last 32 slots.
-/// The slot must be 32 or later.
+/// The full board of this slot: eight racks from each of the last slots, as many slots as
+/// the longest wait has. The slot's number must be at least that wait.
 pub fn full_board(draw: &mut Draw, slot: u32) -> Board {
     let depth = draw.between(0, DEEPEST);
     let mut jobs = Vec::new();
@@ -309,9 +309,17 @@ fn ticket(draw: &mut Draw, highest: u32, wrong: u32) -> u32 {
 
 fn laxity(draw: &mut Draw, crowd: Crowd) -> u32 {
     if draw.one_in(crowd.wrong) {
-        return draw.pick(&[0, LONGEST_LAXITY, LONGEST_LAXITY + 1, u32::MAX]);
+        let too_long = too_long_laxity(draw);
+        return draw.pick(&[0, LONGEST_LAXITY, too_long, u32::MAX]);
     }
     draw.between(1, crowd.longest)
+}
+
+/// A wait that is longer than the longest one: half of the time by one slot, else by any
+/// number up to twice as long.
+pub fn too_long_laxity(draw: &mut Draw) -> u32 {
+    let more = draw.between(1, LONGEST_LAXITY);
+    LONGEST_LAXITY + draw.pick(&[1, more])
 }
 
 fn grade(draw: &mut Draw, depth: u32, wrong: u32) -> u32 {

@@ -2,13 +2,17 @@
 
 mod common;
 
+use std::collections::BTreeSet;
+
 use common::trials::Trial;
 use model::book::Book;
 use model::draw::Draw;
+use model::limits::{LONGEST_LAXITY, MOST_HELD};
 use model::list::{play, Answer, Call};
 use model::plans::{
     baked, every_plan, is_plan, is_unbeaten, most_baked, most_baked_by_trying, plan_of, plans_of,
 };
+use model::refusal::Refusal;
 use model::rule::job_to_bake;
 use model::samples;
 use model::soundness::is_sound;
@@ -36,6 +40,28 @@ fn board_and_book_agree_on_every_call() {
             assert!(is_sound(&board));
         }
     }
+}
+
+#[test]
+fn drawn_lists_have_the_longest_wait_and_longer_ones() {
+    let mut draw = Draw::new(19);
+    let (mut let_through, mut refused) = (BTreeSet::new(), BTreeSet::new());
+    for _ in 0..3_000 {
+        let trial = Trial::drawn(&mut draw, 60);
+        for (call, answer) in trial.calls.iter().zip(trial.answers()) {
+            if let Call::Admit { laxity, .. } = call {
+                match answer {
+                    Answer::Admitted(_) => let_through.insert(*laxity),
+                    Answer::Refused(Refusal::Laxity) => refused.insert(*laxity),
+                    _ => continue,
+                };
+            }
+        }
+    }
+    let longest = LONGEST_LAXITY;
+    assert_eq!(let_through, (1..=longest).collect());
+    let wrong = (longest + 1..=2 * longest).chain([0, u32::MAX]);
+    assert_eq!(refused, wrong.collect());
 }
 
 #[test]
@@ -129,7 +155,7 @@ fn what_is_no_plan() {
         laxity,
         grade: 0,
     };
-    let close = Call::Close { lent: 256 };
+    let close = Call::Close { lent: MOST_HELD };
     let trial = Trial {
         depth: 0,
         slot: 5,
@@ -171,7 +197,7 @@ fn random_boards_close_as_the_rule_says() {
     for _ in 0..3_000 {
         let before = samples::board(&mut draw, 60);
         let mut after = before.clone();
-        let answer = play(&mut after, &[Call::Close { lent: 256 }]).remove(0);
+        let answer = play(&mut after, &[Call::Close { lent: MOST_HELD }]).remove(0);
         let closed = match answer {
             Answer::Closed(closed) => closed,
             other => panic!("{other:?}"),

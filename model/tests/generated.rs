@@ -2,8 +2,12 @@
 
 use std::collections::BTreeSet;
 
+use model::day::Day;
 use model::inputs::{self, Kind};
+use model::limits::{LONGEST_LAXITY, MOST_HELD};
+use model::lines::{read, Request};
 use model::program::run_bytes;
+use model::refusal::Refusal;
 
 fn kind(name: &str) -> Kind {
     inputs::find(name).expect("a kind")
@@ -72,10 +76,57 @@ fn refusals_are_all_there() {
     }
 }
 
+/// The waits that are let through on the days of a kind, and those that get 5.
+fn waits(name: &str, seeds: u64) -> (BTreeSet<u32>, BTreeSet<u32>) {
+    let (mut let_through, mut refused) = (BTreeSet::new(), BTreeSet::new());
+    for seed in 0..seeds {
+        let mut day = Day::default();
+        for line in kind(name).input(seed, None).split(|&byte| byte == b'\n') {
+            let answer = day.take(line);
+            if let Ok(Request::Admit { laxity, .. }) = read(line) {
+                match answer {
+                    Ok(_) => let_through.insert(laxity),
+                    Err(Refusal::Laxity) => refused.insert(laxity),
+                    Err(_) => continue,
+                };
+            }
+        }
+    }
+    (let_through, refused)
+}
+
+#[test]
+fn every_wait_up_to_the_longest_is_let_through() {
+    let up_to_longest: BTreeSet<u32> = (1..=LONGEST_LAXITY).collect();
+    for kind in inputs::KINDS {
+        let seeds = match kind.name {
+            // The days of these have short waits only, or a million lines.
+            "ties" | "tickets" | "overlong" | "tiny" | "end" => continue,
+            "long" => 1,
+            _ => 40,
+        };
+        assert_eq!(waits(kind.name, seeds).0, up_to_longest, "{}", kind.name);
+    }
+}
+
+#[test]
+fn waits_too_long_by_one_slot_or_more_are_refused() {
+    let longest = LONGEST_LAXITY;
+    let (_, refused) = waits("refusals", 100);
+    let wrong = (longest + 1..=2 * longest).chain([0, u32::MAX]);
+    assert_eq!(refused, wrong.collect());
+    let (_, refused) = waits("mixed", 100);
+    assert!(refused.contains(&(longest + 1)), "{refused:?}");
+    let longer = refused.range(longest + 2..=2 * longest);
+    assert!(longer.count() > 5, "{refused:?}");
+}
+
 #[test]
 fn the_books_end_is_refused() {
     let output = text(&kind("end").input(1, None));
-    assert!(refusals(&output).contains(&3));
+    let seen = refusals(&output);
+    // Waits too long by one slot are among those asked for.
+    assert!(seen.contains(&3) && seen.contains(&5));
     assert!(output.contains("\nB,1000000,"));
     assert!(!output.contains("\nB,1000001,"));
 }
@@ -129,7 +180,11 @@ fn tickets_fall(racks: &[(u32, u32)]) -> bool {
 
 #[test]
 fn many_racks_of_mixed_grades_are_given_up_at_every_depth() {
-    for (name, many) in [("given-up", 150), ("pages", 255), ("overfull", 6)] {
+    for (name, many) in [
+        ("given-up", MOST_HELD * 3 / 5),
+        ("pages", MOST_HELD - 1),
+        ("overfull", 6),
+    ] {
         // Grades of a closing: one at depth 0, then up to two, four and eight.
         let mut seen = BTreeSet::new();
         for seed in 0..60 {

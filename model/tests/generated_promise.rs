@@ -9,7 +9,7 @@ use common::{each_question, lines_of};
 use model::board::Board;
 use model::day::Day;
 use model::inputs::{self, Kind};
-use model::limits::{LAST_SLOT, MOST_HELD};
+use model::limits::{LAST_SLOT, LONGEST_LAXITY, MOST_HELD};
 use model::lines::next_line;
 use model::refusal::Refusal;
 use model::rule::excess;
@@ -46,13 +46,13 @@ fn answers(name: &str, seeds: u64, size: Option<u32>) -> Spread {
 fn every_answer_is_given_and_0_for_both_reasons() {
     let seen = answers("promise", 40, None);
     // Of some 7,000 questions.
-    assert!(seen.rarest(32) > 25, "{seen:?}");
+    assert!(seen.rarest(LONGEST_LAXITY) > 25, "{seen:?}");
     assert!(seen.of(0) > 500 && seen.of(1) > 500, "{seen:?}");
 }
 
 #[test]
 fn short_days_have_many_answers() {
-    for (slots, longest, many) in [(1, 8, 5), (3, 15, 2), (4, 15, 3), (20, 32, 50)] {
+    for (slots, longest, many) in [(1, 8, 5), (3, 15, 2), (4, 15, 3), (20, LONGEST_LAXITY, 50)] {
         let seen = answers("promise", 300, Some(slots));
         let rarest = (0..=longest).map(|wait| seen.of(wait)).min();
         assert!(rarest > Some(many), "{slots} slots: {seen:?}");
@@ -74,7 +74,8 @@ fn other_days_have_short_promises_and_long_ones() {
         for wait in [0, 1, 2] {
             assert!(seen.of(wait) > 20, "{name} {seen:?}");
         }
-        let longer: usize = (8..=32).map(|wait| seen.of(wait)).sum();
+        let longer = (8..=LONGEST_LAXITY).map(|wait| seen.of(wait));
+        let longer: usize = longer.sum();
         assert!(longer > 20, "{name} {seen:?}");
     }
 }
@@ -82,7 +83,8 @@ fn other_days_have_short_promises_and_long_ones() {
 /// The waits that are full on a board: their excess is zero.
 fn full_waits(board: &Board) -> Vec<i64> {
     let is_full = |wait: &i64| excess(board.jobs(), board.slot, *wait) == 0;
-    (1..=32).filter(is_full).collect()
+    let waits = 1..=i64::from(LONGEST_LAXITY);
+    waits.filter(is_full).collect()
 }
 
 #[test]

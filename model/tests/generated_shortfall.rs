@@ -6,7 +6,7 @@ use std::collections::BTreeMap;
 
 use common::{each_closing, smallest_excess, Closing};
 use model::inputs;
-use model::limits::LAST_SLOT;
+use model::limits::{LAST_SLOT, LONGEST_LAXITY, MOST_HELD};
 use model::rule::tight_laxity;
 
 /// Hands on each closing of the days of a kind with the shortfall of the closing
@@ -77,9 +77,11 @@ fn shortfalls_small_and_large() {
     for shortfall in 0..=40 {
         assert!(seen.contains_key(&shortfall), "{seen:?}");
     }
-    assert!(shortfalls("given-up", 40).keys().any(|&lost| lost > 150));
-    assert!(shortfalls("long", 2).keys().any(|&lost| lost > 100));
-    assert!(shortfalls("pages", 10).contains_key(&255));
+    let full = MOST_HELD as u32;
+    let largest = |name, seeds| shortfalls(name, seeds).into_keys().max();
+    assert!(largest("given-up", 40) > Some(full * 3 / 5));
+    assert!(largest("long", 2) > Some(full * 2 / 5));
+    assert_eq!(largest("pages", 10), Some(full - 1));
 }
 
 #[test]
@@ -121,6 +123,9 @@ fn racks_wait_past_the_books_end() {
             last_slot += usize::from(slot == LAST_SLOT);
         }
     });
-    assert!(closings > 20 && lost_there > 0, "{closings} {lost_there}");
+    // Racks can wait past the end in no more slots than the longest wait has, less one.
+    let most_of_them = LONGEST_LAXITY * 5 / 8;
+    assert!(closings > most_of_them, "{closings}");
+    assert!(lost_there > 0, "{lost_there}");
     assert_eq!(last_slot, 1);
 }

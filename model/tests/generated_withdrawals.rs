@@ -143,7 +143,7 @@ fn seventeen_for_each_of_the_reasons() {
         ("withdrawals", 40, None, 100),
         ("withdrawals", 300, Some(6), 20),
         ("mixed", 40, None, 30),
-        ("refusals", 40, None, 30),
+        ("refusals", 60, None, 40),
     ] {
         let (reasons, again) = reasons_of_days(name, seeds, size);
         assert_eq!(reasons.len(), 6, "{name} {reasons:?}");

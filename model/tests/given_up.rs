@@ -62,15 +62,24 @@ fn an_entry_has_its_own_admitted_slot() {
         deadline: 40,
         grade,
     };
+    // As early as a rack with last slot 40 can have come, and three slots later.
+    let oldest = 40 + 1 - LONGEST_LAXITY;
+    let later = oldest + 3;
     let jobs = [
-        job(3, 9, 1),
-        job(5, 12, 0),
-        job(6, 12, 1),
+        job(3, oldest, 1),
+        job(5, later, 0),
+        job(6, later, 1),
         job(8, 39, 0),
         job(9, 40, 1),
         job(11, 40, 0),
     ];
-    let wanted = [(8, 0, 39), (11, 0, 40), (3, 1, 9), (6, 1, 12), (9, 1, 40)];
+    let wanted = [
+        (8, 0, 39),
+        (11, 0, 40),
+        (3, 1, oldest),
+        (6, 1, later),
+        (9, 1, 40),
+    ];
     let wanted = wanted.map(|(ticket, grade, admitted)| Expired {
         ticket,
         grade,
@@ -129,22 +138,23 @@ fn the_greatest_tickets() {
 }
 
 #[test]
-fn all_256_racks_in_their_last_slot() {
-    // Eight racks from each of 32 slots, one of each grade, the worst first.
+fn a_full_board_of_racks_in_their_last_slot() {
+    // Eight racks from each of the last slots, one of each grade, the worst first.
+    let (full, oldest) = (MOST_HELD as u32, 100 + 1 - LONGEST_LAXITY);
     let mut jobs = Vec::new();
-    for ticket in 1..=256 {
+    for ticket in 1..=full {
         jobs.push(Job {
             ticket,
-            admitted: 69 + (ticket - 1) / 8,
+            admitted: oldest + (ticket - 1) / 8,
             deadline: 100,
             grade: 7 - (ticket - 1) % 8,
         });
     }
-    let board = Board::holding(3, 100, 256, &jobs);
+    let board = Board::holding(3, 100, full, &jobs);
     assert_eq!((closed(&board).ticket, closed(&board).grade), (8, 0));
     let mut wanted = Vec::new();
     for grade in 0..8 {
-        for round in 0..32 {
+        for round in 0..LONGEST_LAXITY {
             wanted.push((8 - grade + 8 * round, grade));
         }
     }
@@ -158,9 +168,9 @@ fn drawn_board(draw: &mut Draw, number: u32) -> Board {
     let slot = draw.between(LONGEST_LAXITY, LAST_SLOT);
     match number % 5 {
         0 => samples::board(draw, 12),
-        1 => samples::board(draw, 256),
+        1 => samples::board(draw, MOST_HELD as u32),
         2 => samples::full_board(draw, slot),
-        3 => samples::all_due(samples::board(draw, 256)),
+        3 => samples::all_due(samples::board(draw, MOST_HELD as u32)),
         _ => samples::all_due(samples::full_board(draw, slot)),
     }
 }

@@ -3,6 +3,7 @@
 mod common;
 
 use common::{answers, printed};
+use model::limits::LONGEST_LAXITY;
 use model::program::run_bytes;
 
 /// The answer to a line on an open board of depth 1 with ticket 5 admitted.
@@ -245,7 +246,8 @@ fn a_blank_grade_is_the_worst_of_the_depth() {
 #[test]
 fn a_blank_grade_is_refused_for_the_other_fields_only() {
     assert_eq!(on_open_board("A,5,1,"), "R,3,4");
-    assert_eq!(on_open_board("A,6,33,"), "R,3,5");
+    let too_long = LONGEST_LAXITY + 1;
+    assert_eq!(on_open_board(&format!("A,6,{too_long},")), "R,3,5");
     assert_eq!(on_open_board("A,6,1,2"), "R,3,6");
     assert_eq!(on_none("A,6,1,"), "R,1,15");
 }
@@ -254,9 +256,10 @@ fn a_blank_grade_is_refused_for_the_other_fields_only() {
 fn leading_zeros_are_allowed() {
     assert_eq!(on_none("D,01"), "D,1");
     assert_eq!(on_none("D,0000000003"), "D,3");
+    let longest = LONGEST_LAXITY;
     assert_eq!(
-        on_open_board("A,0000000006,0000000032,0000000001"),
-        "A,6,32"
+        on_open_board(&format!("A,0000000006,{longest:010},0000000001")),
+        format!("A,6,{longest}")
     );
     assert_eq!(on_open_board("A,4294967295,1,0"), "A,4294967295,1");
     assert_eq!(on_open_board("A,6,1,4294967295"), "R,3,6");

@@ -2,15 +2,16 @@
 
 mod common;
 
-use common::boards::{held, held_for_long};
+use common::boards::{held, held_for_long, of_the_longest_wait, FIRST_SOLD_OUT};
+use common::crowds::{up_to_first_overfull, EIGHT, FIRST_OVERFULL, ROOM_THERE};
 use common::{answers, printed, worked, Closing};
 use model::board::{open, Board, Job};
 use model::calls::{admit, close, promise};
 use model::day::{Day, Done};
 use model::draw::Draw;
 use model::edges;
-use model::limits::{LAST_SLOT, LONGEST_LAXITY, MOST_HELD};
-use model::promise::least_wait;
+use model::limits::{LAST_SLOT, LONGEST_LAXITY, MOST_HELD, MOST_PER_SLOT};
+use model::promise::{least_wait, least_wait_up_to};
 use model::refusal::Refusal;
 use model::samples;
 use model::shortfall::least_given_up;
@@ -51,7 +52,7 @@ fn an_empty_board_gives_1() {
 #[test]
 fn beside_one_rack() {
     assert_eq!(beside(&[1]), 2);
-    for wait in 2..=32 {
+    for wait in 2..=LONGEST_LAXITY {
         assert_eq!(beside(&[wait]), 1);
     }
 }
@@ -67,7 +68,7 @@ fn beside_a_few_racks() {
     // Racks are lost already.
     assert_eq!(beside(&[1, 1]), 0);
     assert_eq!(beside(&[2, 2, 2]), 0);
-    assert_eq!(beside(&[1, 1, 32]), 0);
+    assert_eq!(beside(&[1, 1, LONGEST_LAXITY]), 0);
     assert_eq!(beside(&[1, 5, 5, 5, 5, 5, 9]), 0);
 }
 
@@ -107,57 +108,76 @@ fn boards_1_to_8() {
 
 #[test]
 fn a_rack_for_each_slot_up_to_a_wait() {
-    for full in 0..32 {
+    for full in 0..LONGEST_LAXITY {
         let waits: Vec<u32> = (1..=full).collect();
         assert_eq!(beside(&waits), full + 1);
     }
-    let sold_out = held(50, &(1..=32).collect::<Vec<_>>());
+    let sold_out = held(50, &(1..=LONGEST_LAXITY).collect::<Vec<_>>());
     assert_eq!((promised(&sold_out), shortfall(&sold_out)), (0, 0));
 }
 
 #[test]
-fn thirty_two_racks_of_wait_32() {
-    // No board holds more than eight of them, but a list may.
-    let job = Job {
-        ticket: 1,
-        admitted: 7,
-        deadline: 38,
-        grade: 0,
-    };
-    for (many, wait, lost) in [(30, 1, 0), (31, 1, 0), (32, 0, 0), (33, 0, 1)] {
-        let jobs = vec![job; many];
+fn the_longest_wait_is_promised_and_none_longer() {
+    let longest = LONGEST_LAXITY;
+    for slot in [50, LAST_SLOT] {
+        let last_free = held(slot, &(1..longest).collect::<Vec<_>>());
+        assert_eq!(promised(&last_free), longest);
+        // Only a wait one slot longer would do.
+        let sold_out = held(slot, &(1..=longest).collect::<Vec<_>>());
+        assert_eq!(promised(&sold_out), 0);
+        let would_do = least_wait_up_to(longest + 1, sold_out.jobs(), slot);
+        assert_eq!(would_do, longest + 1);
+    }
+}
+
+#[test]
+fn as_many_racks_of_the_longest_wait_as_it_has_slots() {
+    let full = LONGEST_LAXITY as usize;
+    for (many, wait, lost) in [
+        (full - 2, 1, 0),
+        (full - 1, 1, 0),
+        (full, 0, 0),
+        (full + 1, 0, 1),
+    ] {
+        let jobs = of_the_longest_wait(7, many);
         assert_eq!(
             (least_wait(&jobs, 7), least_given_up(&jobs, 7)),
             (wait, lost)
         );
     }
-    for many in 0..=256 {
+    for many in 0..=MOST_HELD {
         let board = held_for_long(500, many);
-        let wait = if many < 32 { 1 } else { 0 };
+        let wait = if many < full { 1 } else { 0 };
         assert_eq!(promised(&board), wait, "{many}");
-        assert_eq!(shortfall(&board) > 0, many > 32);
+        assert_eq!(shortfall(&board) > 0, many > full);
     }
 }
 
 #[test]
-fn thirty_one_racks_for_31_slots_leave_the_32nd() {
-    // A board has at most sixteen racks of wait 31 or more.
-    let mut waits = [31; 31];
-    waits[..16].fill(16);
+fn racks_that_fill_all_slots_but_the_last_leave_that_one() {
+    // A board has at most sixteen racks whose wait is the longest but one or longer. So
+    // fifteen have that wait, and the others fill the first slots.
+    let before_last = LONGEST_LAXITY - 1;
+    let mut waits = vec![before_last; before_last as usize];
+    let first = waits.len() - (2 * MOST_PER_SLOT - 1);
+    waits[..first].fill(first as u32);
     let board = held(50, &waits);
-    assert_eq!((promised(&board), shortfall(&board)), (32, 0));
+    assert_eq!((promised(&board), shortfall(&board)), (LONGEST_LAXITY, 0));
 }
 
 #[test]
 fn a_sold_out_board_runs_down() {
+    let full = LONGEST_LAXITY as usize;
     // Nobody else arrives: each slot that is closed makes the wait one shorter.
     let mut wanted = vec![0];
-    wanted.extend((1..=32).rev());
+    wanted.extend((1..=LONGEST_LAXITY).rev());
     wanted.push(1);
-    assert_eq!(by_slot(held_for_long(500, 32), 33), wanted);
-    // With 31 racks slot 1 is free at first; the oven bakes in it, and then
-    // 30 racks have 31 slots.
-    assert_eq!(by_slot(held_for_long(500, 31), 40), [1; 41]);
+    assert_eq!(by_slot(held_for_long(500, full), full + 1), wanted);
+    // With a rack fewer slot 1 is free at first; the oven bakes in it, and then there
+    // is a slot more than racks again.
+    let closings = full + 8;
+    let seen = by_slot(held_for_long(500, full - 1), closings);
+    assert_eq!(seen, vec![1; closings + 1]);
 }
 
 #[test]
@@ -165,15 +185,15 @@ fn a_promise_is_kept() {
     let mut draw = Draw::new(101);
     let (mut kept, mut none_shorter) = (0, 0);
     for _ in 0..3_000 {
-        let slot = draw.between(4, LAST_SLOT);
-        let full = draw.between(0, 31);
+        let slot = draw.between(FIRST_SOLD_OUT, LAST_SLOT);
+        let full = draw.between(0, LONGEST_LAXITY - 1);
         let board = samples::filled_board(&mut draw, slot, full, 9);
         let wait = promised(&board);
         let after = |wait| {
             let mut board = board.clone();
             admit(&mut board, u32::MAX, wait, 0).map(|_| shortfall(&board))
         };
-        for longer in wait..=32 {
+        for longer in wait..=LONGEST_LAXITY {
             if after(longer) != Err(Refusal::SlotFull) {
                 assert_eq!(after(longer), Ok(0));
                 kept += 1;
@@ -200,10 +220,12 @@ fn all_racks_count_whenever_they_were_admitted() {
         });
         promised(&Board::holding(0, 50, 9, &jobs))
     };
+    // As early as a rack with last slot 50 or 53 can have come.
+    let [oldest, later] = [50, 53].map(|deadline| deadline + 1 - LONGEST_LAXITY);
     for admitted in [
         [50, 50, 50, 50],
-        [19, 22, 22, 22],
-        [19, 30, 49, 50],
+        [oldest, later, later, later],
+        [oldest, later + 8, 49, 50],
         [40, 40, 40, 50],
     ] {
         assert_eq!(racks(admitted), 5);
@@ -244,7 +266,7 @@ fn row_7_plays_no_part() {
 }
 
 #[test]
-fn full_boards_of_256_are_sold_out() {
+fn full_boards_are_sold_out() {
     let mut draw = Draw::new(102);
     for _ in 0..50 {
         let board = samples::full_board(&mut draw, 700);
@@ -266,11 +288,12 @@ fn slots_past_the_books_end_count() {
     // Two slots of the book and one past its end.
     assert_eq!(promised(&held(LAST_SLOT - 1, &[2, 3, 3])), 4);
     assert_eq!(promised(&held(LAST_SLOT - 1, &[1, 2])), 3);
-    for (many, wait) in [(31, 1), (32, 0), (33, 0)] {
+    let full = LONGEST_LAXITY as usize;
+    for (many, wait) in [(full - 1, 1), (full, 0), (full + 1, 0)] {
         assert_eq!(promised(&held_for_long(LAST_SLOT, many)), wait);
     }
-    let waits: Vec<u32> = (1..=31).collect();
-    assert_eq!(promised(&held(LAST_SLOT, &waits)), 32);
+    let waits: Vec<u32> = (1..LONGEST_LAXITY).collect();
+    assert_eq!(promised(&held(LAST_SLOT, &waits)), LONGEST_LAXITY);
 }
 
 #[test]
@@ -280,7 +303,8 @@ fn refused_with_3_past_the_books_end() {
         promise(&Board::holding(0, ended, 0, &[])),
         Err(Refusal::BookEnded)
     );
-    for many in [1, 8, 32, 33, 256] {
+    let full = LONGEST_LAXITY as usize;
+    for many in [1, 8, full, full + 1, MOST_HELD] {
         let board = held_for_long(ended, many);
         assert_eq!(promise(&board), Err(Refusal::BookEnded));
     }
@@ -302,7 +326,7 @@ fn refused_with_2_where_the_board_is_unsound() {
     assert_eq!(promise(&Board::zero()), Err(Refusal::Unsound));
     // 2 comes before 3.
     let mut board = held(LAST_SLOT + 1, &[3; 3]);
-    board.places[200].grade = 1;
+    board.places[MOST_HELD - 1].grade = 1;
     assert_eq!(promise(&board), Err(Refusal::Unsound));
 }
 
@@ -328,7 +352,7 @@ fn boards_with_a_rack_for_each_slot() {
     let mut draw = Draw::new(106);
     for (name, wait) in [
         ("a rack for each slot", 0),
-        ("a rack for each slot but the last", 32),
+        ("a rack for each slot but the last", LONGEST_LAXITY),
     ] {
         let (_, make) = edges::BOUNDARY
             .into_iter()
@@ -409,32 +433,26 @@ Q
     assert!(printed(input).ends_with("Q,4\nT,0,4,2,0,0\nT,1,2,0,1,0\n"));
 }
 
-/// A day of eight racks a slot with wait 32 for four slots, and then so many more.
-fn day_of_32_and_more(more: u32) -> String {
-    let mut input = "D,0\n".to_string();
-    for ticket in 1..=32 {
-        input += &format!("A,{ticket},32,0\n");
-        input += if ticket % 8 == 0 { "B\n" } else { "" };
-    }
-    for ticket in 33..33 + more {
-        input += &format!("A,{ticket},32,0\n");
-    }
-    input + "Q\n"
-}
-
 #[test]
 fn a_day_that_is_sold_out() {
-    // 28 racks are left in slot 5.
-    for (more, wait) in [(0, 1), (3, 1), (4, 0), (5, 0), (8, 0)] {
-        let seen = answers(&day_of_32_and_more(more));
+    for more in 0..=EIGHT {
+        let seen = answers(&(up_to_first_overfull(more) + "Q\n"));
+        let wait = if more < ROOM_THERE { 1 } else { 0 };
         assert_eq!(seen.last(), Some(&format!("Q,{wait}")), "{more}");
     }
     // The next slot has room for a rack again.
-    let seen = answers(&(day_of_32_and_more(4) + "B\nQ\nA,37,32,0\nQ\n"));
-    assert_eq!(
-        seen[seen.len() - 4..],
-        ["B,5,5,0,0,0", "Q,32", "A,37,37", "Q,0"]
-    );
+    let (longest, closed) = (LONGEST_LAXITY, FIRST_OVERFULL);
+    let ticket = EIGHT * (closed - 1) + ROOM_THERE + 1;
+    let more = format!("Q\nB\nQ\nA,{ticket},{longest},0\nQ\n");
+    let seen = answers(&(up_to_first_overfull(ROOM_THERE) + &more));
+    let wanted = [
+        "Q,0".to_string(),
+        format!("B,{closed},{closed},0,0,0"),
+        format!("Q,{longest}"),
+        format!("A,{ticket},{}", closed + longest),
+        "Q,0".to_string(),
+    ];
+    assert_eq!(seen[seen.len() - wanted.len()..], wanted);
 }
 
 #[test]

@@ -5,12 +5,13 @@ mod common;
 
 use std::ops::Range;
 
+use common::boards::slot_to_sell_out;
 use common::{each_question, promise_by_matching, with_further, Question};
 use model::board::{Board, Job};
 use model::calls::promise;
 use model::draw::Draw;
 use model::inputs;
-use model::limits::{LAST_SLOT, MOST_PER_SLOT};
+use model::limits::{LAST_SLOT, LONGEST_LAXITY, MOST_PER_SLOT};
 use model::program::run_bytes;
 use model::promise::{least_wait, least_wait_up_to, plan_with};
 use model::rule::{excess, group, laxity};
@@ -101,7 +102,9 @@ type Named = (&'static str, Mistake);
 
 /// The least wait of which something is true; 0 where there is none.
 fn least<T: Fn(u32) -> bool>(true_of: T) -> u32 {
-    (1..=32).find(|&wait| true_of(wait)).unwrap_or(0)
+    (1..=LONGEST_LAXITY)
+        .find(|&wait| true_of(wait))
+        .unwrap_or(0)
 }
 
 /// How many racks are due by this wait.
@@ -134,7 +137,7 @@ fn after_the_first_full(board: &Board) -> u32 {
         return 0;
     }
     match least(|wait| due_by(board, wait) == wait) {
-        32 => 0,
+        LONGEST_LAXITY => 0,
         full => full + 1,
     }
 }
@@ -142,7 +145,7 @@ fn after_the_first_full(board: &Board) -> u32 {
 /// The slot after all racks, laid out one behind the other.
 fn after_all_racks(board: &Board) -> u32 {
     let next = board.count + 1;
-    if all_fit(board) && next <= 32 {
+    if all_fit(board) && next <= LONGEST_LAXITY {
         next
     } else {
         0
@@ -157,7 +160,8 @@ fn one_as_none_is_lost(board: &Board) -> u32 {
 /// Sold out as soon as one wait is full.
 fn sold_out_at_a_full_wait(board: &Board) -> u32 {
     let (jobs, slot) = (board.jobs(), board.slot);
-    u32::from((1..=32).all(|wait| excess(jobs, slot, wait) > 0))
+    let mut waits = 1..=i64::from(LONGEST_LAXITY);
+    u32::from(waits.all(|wait| excess(jobs, slot, wait) > 0))
 }
 
 /// The racks that are lost left out.
@@ -210,12 +214,12 @@ fn with_row_7(board: &Board) -> u32 {
 
 /// The longest wait left out.
 fn without_the_longest(board: &Board) -> u32 {
-    least_wait_up_to(31, board.jobs(), board.slot)
+    least_wait_up_to(LONGEST_LAXITY - 1, board.jobs(), board.slot)
 }
 
 /// A wait too many.
 fn past_the_longest(board: &Board) -> u32 {
-    least_wait_up_to(33, board.jobs(), board.slot)
+    least_wait_up_to(LONGEST_LAXITY + 1, board.jobs(), board.slot)
 }
 
 /// 1 where the day is sold out, though no rack is lost.
@@ -241,7 +245,7 @@ fn within_the_book(board: &Board) -> u32 {
 /// The further rack within the book, whatever the others have.
 fn due_within_the_book(board: &Board) -> u32 {
     let left = LAST_SLOT - board.slot + 1;
-    least_wait_up_to(left.min(32), board.jobs(), board.slot)
+    least_wait_up_to(left.min(LONGEST_LAXITY), board.jobs(), board.slot)
 }
 
 /// The racks left out that may wait past the book's end.
@@ -265,7 +269,8 @@ const MISTAKES: &[Named] = &[
     ("last full wait", last_full_wait),
 ];
 
-/// The mistakes that show only where eight racks come in a slot or 31 are there.
+/// The mistakes that show only where eight racks come in a slot or as many are there as
+/// fill all slots of the longest wait but one.
 const OF_MANY_RACKS: &[Named] = &[
     ("with row 7", with_row_7),
     ("without the longest", without_the_longest),
@@ -350,8 +355,10 @@ fn mistakes_show_on_boards_of_many_racks() {
     let mut draw = Draw::new(122);
     let mut boards = Vec::new();
     for _ in 0..1_000 {
-        let (slot, wait) = (samples::slot(&mut draw).max(4), draw.between(0, 32));
-        boards.push(samples::filled_board(&mut draw, slot, wait, 32));
+        let slot = slot_to_sell_out(&mut draw);
+        let wait = draw.between(0, LONGEST_LAXITY);
+        let later = LONGEST_LAXITY as usize;
+        boards.push(samples::filled_board(&mut draw, slot, wait, later));
     }
     all_show("filled boards", &boards, OF_MANY_RACKS, 10);
     all_show("filled boards", &boards, AT_THE_END, 100);

@@ -4,7 +4,7 @@
 
 mod common;
 
-use common::boards::{drawn_board, held, large_board};
+use common::boards::{drawn_board, held, large_board, slot_to_sell_out, ABOUT_FULL};
 use common::spread::Spread;
 use common::{
     book_from, promise_by_matching, promised_by_matching, sets_baked, slots_ahead, smallest_excess,
@@ -13,7 +13,7 @@ use common::{
 use model::board::{Board, Job};
 use model::calls::promise;
 use model::draw::Draw;
-use model::limits::{LAST_SLOT, LONGEST_LAXITY};
+use model::limits::{LAST_SLOT, LONGEST_LAXITY, MOST_HELD};
 use model::plans::{baked, every_plan, is_plan};
 use model::promise::{least_wait, least_wait_up_to, plan_with};
 use model::rule::excess;
@@ -135,7 +135,7 @@ fn every_plan_of_drawn_boards() {
 /// A board of at most so many racks that is full up to a wait from 0 to the longest,
 /// and not at the next.
 fn filled_board(draw: &mut Draw, longest: u32, most: u32) -> Board {
-    let slot = samples::slot(draw).max(4);
+    let slot = slot_to_sell_out(draw);
     let wait = draw.between(0, longest);
     let later = draw.between(0, most - wait);
     samples::filled_board(draw, slot, wait, later as usize)
@@ -155,10 +155,10 @@ fn moved(draw: &mut Draw, mut board: Board) -> Board {
 fn any_board(draw: &mut Draw, number: u32) -> Board {
     match number % 4 {
         0 => large_board(draw, number / 4),
-        1 => drawn_board(draw, 40, number / 4),
-        2 => filled_board(draw, 32, 32),
+        1 => drawn_board(draw, ABOUT_FULL, number / 4),
+        2 => filled_board(draw, LONGEST_LAXITY, LONGEST_LAXITY),
         _ => {
-            let board = filled_board(draw, 32, 32);
+            let board = filled_board(draw, LONGEST_LAXITY, LONGEST_LAXITY);
             moved(draw, board)
         }
     }
@@ -174,19 +174,21 @@ fn a_matching_on_large_boards() {
         assert_eq!(wait, promise_by_matching(board.jobs(), board.slot));
         seen.count(wait, board.jobs(), board.slot);
     }
-    assert!(seen.rarest(32) > 5 && seen.of(0) > 500, "{seen:?}");
+    let rarest = seen.rarest(LONGEST_LAXITY);
+    assert!(rarest > 5 && seen.of(0) > 500, "{seen:?}");
 }
 
 #[test]
 fn a_board_full_up_to_a_wait_gives_the_next() {
     let mut draw = Draw::new(113);
     for _ in 0..100 {
-        for full in 0..=32 {
-            let slot = samples::slot(&mut draw).max(4);
+        for full in 0..=LONGEST_LAXITY {
+            let slot = slot_to_sell_out(&mut draw);
             let later = draw.index(12);
             let board = samples::filled_board(&mut draw, slot, full, later);
             assert_eq!(least_given_up(board.jobs(), slot), 0);
-            let next = if full == 32 { 0 } else { full + 1 };
+            let is_sold_out = full == LONGEST_LAXITY;
+            let next = if is_sold_out { 0 } else { full + 1 };
             assert_eq!(promise(&board), Ok(next));
         }
     }
@@ -207,7 +209,7 @@ fn no_shorter_wait_can_be_promised_and_every_longer_one_can() {
         }
         seen.count(promised, jobs, slot);
     }
-    assert!(seen.rarest(32) > 1, "{seen:?}");
+    assert!(seen.rarest(LONGEST_LAXITY) > 1, "{seen:?}");
 }
 
 #[test]
@@ -217,9 +219,11 @@ fn the_longest_wait_only_cuts_off() {
     for number in 0..500 {
         let board = any_board(&mut draw, number);
         let (jobs, slot) = (board.jobs(), board.slot);
-        let endless = least_wait_up_to(300, jobs, slot);
+        // The slot after that many racks is free.
+        let endless = least_wait_up_to(MOST_HELD as u32 + 1, jobs, slot);
         assert_eq!(endless == 0, least_given_up(jobs, slot) > 0);
-        for longest in [0, 1, 2, 24, 31, 32, 33] {
+        let about = LONGEST_LAXITY - 1..=LONGEST_LAXITY + 1;
+        for longest in about.chain([0, 1, 2, LONGEST_LAXITY * 3 / 4]) {
             let wanted = if endless <= longest { endless } else { 0 };
             assert_eq!(least_wait_up_to(longest, jobs, slot), wanted);
         }
@@ -275,7 +279,7 @@ fn the_first_slot_left_free_by_racks_laid_as_late_as_can_be() {
         assert_eq!(wait, first_free_slot(jobs, slot), "{jobs:?}");
         seen.count(wait, jobs, slot);
     }
-    assert!(seen.rarest(32) > 50, "{seen:?}");
+    assert!(seen.rarest(LONGEST_LAXITY) > 50, "{seen:?}");
 }
 
 /// The promise by counting: where no excess is below zero, the wait after the last
@@ -285,11 +289,11 @@ fn by_excess(jobs: &[Job], slot: u32) -> u32 {
         return 0;
     }
     let is_full = |wait: &i64| excess(jobs, slot, *wait) == 0;
-    let next = (1..=32).rev().find(is_full).map_or(1, |full| full + 1);
-    if next > 32 {
-        0
-    } else {
-        next as u32
+    let longest = i64::from(LONGEST_LAXITY);
+    match (1..=longest).rev().find(is_full) {
+        None => 1,
+        Some(full) if full == longest => 0,
+        Some(full) => full as u32 + 1,
     }
 }
 
@@ -304,5 +308,5 @@ fn the_wait_after_the_last_whose_excess_is_zero() {
         assert_eq!(wait, by_excess(jobs, slot), "{jobs:?}");
         seen.count(wait, jobs, slot);
     }
-    assert!(seen.rarest(32) > 50, "{seen:?}");
+    assert!(seen.rarest(LONGEST_LAXITY) > 50, "{seen:?}");
 }

@@ -6,7 +6,7 @@ use model::board::{open, Board, Job};
 use model::calls::{admit, close};
 use model::draw::Draw;
 use model::edges;
-use model::limits::{FULL_COUNT, LAST_SLOT, MOST_HELD};
+use model::limits::{FULL_COUNT, LAST_SLOT, LONGEST_LAXITY, MOST_HELD};
 use model::refusal::Refusal;
 use model::samples;
 use model::tally::Tally;
@@ -26,7 +26,7 @@ fn board_with(unsound: bool, ended: bool, slot_full: bool) -> Board {
     }
     let mut board = Board::holding(1, slot, 9, &jobs);
     if unsound {
-        board.places[200].grade = 1;
+        board.places[MOST_HELD - 1].grade = 1;
     }
     board
 }
@@ -80,7 +80,7 @@ fn admitting_gives_the_first_of_any_faults() {
         let mut board = board_with(has(0), has(1), has(5));
         let before = board.clone();
         let ticket = if has(2) { 9 } else { 10 };
-        let laxity = if has(3) { 33 } else { 32 };
+        let laxity = LONGEST_LAXITY + u32::from(has(3));
         let grade = if has(4) { 2 } else { 1 };
         let answer = admit(&mut board, ticket, laxity, grade);
         let numbered: Vec<(bool, u32)> = (0..6).map(|place| (has(place), place + 2)).collect();
@@ -90,7 +90,7 @@ fn admitting_gives_the_first_of_any_faults() {
                 assert_eq!(board, before);
             }
             None => {
-                assert_eq!(answer, Ok(700 + 31));
+                assert_eq!(answer, Ok(700 + LONGEST_LAXITY - 1));
                 assert_eq!((board.count, board.highest_ticket), (8, 10));
             }
         }
@@ -130,13 +130,36 @@ fn ends_of_the_ranges() {
     assert_eq!(try_admit(10, 0, 0), Err(5));
     assert_eq!(try_admit(10, u32::MAX, 0), Err(5));
     assert_eq!(try_admit(10, 1, u32::MAX), Err(6));
-    for lent in [0, 1, 255] {
+    for lent in [0, 1, MOST_HELD - 1] {
         let answer = close(&mut board_with(false, false, false), lent);
         assert_eq!(answer, Err(Refusal::ListShort));
     }
-    for lent in [256, 257, 100_000] {
+    for lent in [MOST_HELD, MOST_HELD + 1, 100_000] {
         assert!(close(&mut board_with(false, false, false), lent).is_ok());
     }
+}
+
+#[test]
+fn every_wait_up_to_the_longest_and_none_longer() {
+    for slot in [1, 700, LAST_SLOT] {
+        let board = Board::holding(0, slot, 0, &[]);
+        let try_wait = |wait| admit(&mut board.clone(), 1, wait, 0);
+        for wait in 1..=LONGEST_LAXITY {
+            assert_eq!(try_wait(wait), Ok(slot + wait - 1));
+            assert_eq!(try_wait(LONGEST_LAXITY + wait), Err(Refusal::Laxity));
+        }
+    }
+}
+
+#[test]
+fn a_full_board_is_closed_with_a_list_of_as_many_entries_as_places() {
+    let mut draw = Draw::new(7);
+    let board = samples::all_due(samples::full_board(&mut draw, 700));
+    let mut closed = board.clone();
+    assert_eq!(close(&mut closed, MOST_HELD - 1), Err(Refusal::ListShort));
+    assert_eq!(closed, board);
+    let answer = close(&mut closed, MOST_HELD).expect("the list is long enough");
+    assert_eq!((answer.expired.len(), closed.count), (MOST_HELD - 1, 0));
 }
 
 #[test]
@@ -182,6 +205,24 @@ fn a_full_board_has_no_refusal_of_its_own() {
     assert_eq!(admit(&mut board, 1000, 1, 0), Err(Refusal::SlotFull));
     assert!(close(&mut board, MOST_HELD).is_ok());
     assert_eq!(admit(&mut board, 1000, 1, 0), Ok(501));
+}
+
+#[test]
+fn the_last_place_is_taken_like_any_other() {
+    let mut draw = Draw::new(8);
+    let mut board = samples::full_board(&mut draw, 500);
+    // Without its last rack the board has a place left, and the slot an eighth rack to come.
+    let without_last = board.jobs()[..MOST_HELD - 1].to_vec();
+    board.put(&without_last);
+    assert_eq!(
+        admit(&mut board, 1000, LONGEST_LAXITY, 0),
+        Ok(500 + LONGEST_LAXITY - 1)
+    );
+    assert_eq!(
+        (board.held(), board.places[MOST_HELD - 1].ticket),
+        (MOST_HELD, 1000)
+    );
+    assert_eq!(admit(&mut board, 1001, 1, 0), Err(Refusal::SlotFull));
 }
 
 #[test]

@@ -2,7 +2,9 @@
 
 mod common;
 
-use common::paper::{closing, page, HEADING, PAGE, SPACES};
+use common::crowds::{of_one_last_slot, EIGHT, FIRST_OVERFULL};
+use common::paper::{closing, page, totals, HEADING, PAGE, SPACES};
+use model::limits::{LONGEST_LAXITY, MOST_HELD};
 
 /// The sheet of an input, as text.
 fn sheet(input: &str) -> String {
@@ -102,6 +104,7 @@ fn the_papers_sample() {
 /// A day of so many slots in rounds of three: a rack baked and one given up; a
 /// rack baked; none. Refused lines stand between.
 fn day(slots: u32) -> String {
+    let too_long = LONGEST_LAXITY + 1;
     let mut input = "B\nD,4\nD,1\n".to_string();
     for slot in 1..=slots {
         let racks = match slot % 3 {
@@ -109,7 +112,7 @@ fn day(slots: u32) -> String {
             2 => format!("A,{slot}1,1,1\n"),
             _ => String::new(),
         };
-        input += &format!("A,{slot}0,33,0\n{racks}B,\nD,1\nB\n\nb\n");
+        input += &format!("A,{slot}0,{too_long},0\n{racks}B,\nD,1\nB\n\nb\n");
     }
     input
 }
@@ -171,40 +174,34 @@ fn lines_after_the_last_closing_change_nothing() {
     assert_eq!(sheet("D,0\nQ\nB\nQ\nA,1,1,0\nQ\n"), wanted);
 }
 
-/// A day of eight racks in every slot: so many slots in which they have the longest
-/// wait, then 32 slots in which all have the day's last slot as theirs.
-fn crowded(before: u32) -> String {
-    let mut input = "D,0\n".to_string();
-    for slot in 1..=before + 32 {
-        let wait = (before + 33 - slot).min(32);
-        for ticket in slot * 8 - 7..=slot * 8 {
-            input += &format!("A,{ticket},{wait},0\n");
-        }
-        input += "B\n";
-    }
-    input
+#[test]
+fn a_slot_that_gives_up_a_full_board_but_one() {
+    // More racks come for the slots before the last one than these can bake; the rest of
+    // them goes in the last but one. For the last slot a full board is left.
+    let last = FIRST_OVERFULL + LONGEST_LAXITY;
+    let (early, full) = (FIRST_OVERFULL * EIGHT, MOST_HELD as u32);
+    let rest = early - (last - 1);
+    let seen = sheet(&of_one_last_slot(FIRST_OVERFULL));
+    let lines: Vec<&str> = seen.lines().collect();
+    let line = last as usize;
+    assert_eq!(lines[line - 2], closing([last - 2, last - 2, 0, 0]));
+    assert_eq!(lines[line - 1], closing([last - 1, last - 1, 0, rest]));
+    assert_eq!(lines[line], closing([last, early + 1, 0, full - 1]));
+    assert_eq!(lines[line + 1], SPACES);
+    assert_eq!(lines[49], totals(last, rest + full - 1));
 }
 
 #[test]
-fn a_slot_that_gives_up_255() {
-    // 40 racks are there for the 36 slots before; the last four of them go in slot 36.
-    let seen = sheet(&crowded(5));
+fn one_last_slot_for_as_many_racks_as_a_full_board_has() {
+    // Each slot before it bakes one of them.
+    let last = LONGEST_LAXITY;
+    let out = MOST_HELD as u32 - last;
+    let seen = sheet(&of_one_last_slot(0));
     let lines: Vec<&str> = seen.lines().collect();
-    assert_eq!(lines[35], "     35         35 0   0");
-    assert_eq!(lines[36], "     36         36 0   4");
-    assert_eq!(lines[37], "     37         41 0 255");
-    assert_eq!(lines[38], SPACES);
-    assert_eq!(lines[49], "                37   259");
-}
-
-#[test]
-fn one_last_slot_for_32_slots_of_racks_gives_up_224() {
-    // Each slot before it bakes one of the 256.
-    let seen = sheet(&crowded(0));
-    let lines: Vec<&str> = seen.lines().collect();
-    assert_eq!(lines[31], "     31         31 0   0");
-    assert_eq!(lines[32], "     32         32 0 224");
-    assert_eq!(lines[49], "                32   224");
+    let line = last as usize;
+    assert_eq!(lines[line - 1], closing([last - 1, last - 1, 0, 0]));
+    assert_eq!(lines[line], closing([last, last, 0, out]));
+    assert_eq!(lines[49], totals(last, out));
 }
 
 #[test]

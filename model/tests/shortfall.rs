@@ -2,12 +2,17 @@
 
 mod common;
 
-use common::boards::{held, held_for_long};
+use std::cmp::Ordering;
+
+use common::boards::{held, held_for_long, of_the_longest_wait};
+use common::crowds::{
+    of_longest_waits, of_one_last_slot, up_to_first_overfull, EIGHT, FIRST_OVERFULL, ROOM_THERE,
+};
 use common::{answers, closed_slots, printed, smallest_excess, worked, Closing};
 use model::board::{open, Board, Job};
 use model::calls::{admit, close, close_with};
 use model::draw::Draw;
-use model::limits::{LAST_SLOT, MOST_HELD};
+use model::limits::{LAST_SLOT, LONGEST_LAXITY, MOST_HELD};
 use model::refusal::Refusal;
 use model::rule::{first_due, group};
 use model::samples;
@@ -38,7 +43,7 @@ fn an_empty_board_has_none() {
 
 #[test]
 fn one_rack_is_never_lost() {
-    for wait in 1..=32 {
+    for wait in 1..=LONGEST_LAXITY {
         assert_eq!(shortfall(&worked(0, &[(wait, 0)])), 0);
         assert_eq!(shortfall(&worked(3, &[(wait, 7)])), 0);
     }
@@ -69,75 +74,68 @@ fn boards_1_to_8() {
 
 #[test]
 fn of_racks_in_their_last_slot_all_but_one_are_lost() {
-    for many in 1..=256 {
+    for many in 1..=MOST_HELD {
         let board = held(500, &vec![1; many]);
         assert_eq!(by_slot(board, 2), [(many as u32 - 1, many - 1), (0, 0)]);
     }
 }
 
 #[test]
-fn thirty_two_racks_of_wait_32() {
-    // No board holds more than eight of them, but a list may.
-    let job = Job {
-        ticket: 1,
-        admitted: 7,
-        deadline: 38,
-        grade: 0,
-    };
-    for (many, lost) in [(31, 0), (32, 0), (33, 1), (34, 2), (40, 8), (256, 224)] {
-        assert_eq!(least_given_up(&vec![job; many], 7), lost);
+fn as_many_racks_of_the_longest_wait_as_it_has_slots() {
+    let full = LONGEST_LAXITY as usize;
+    for (many, lost) in [
+        (full - 1, 0),
+        (full, 0),
+        (full + 1, 1),
+        (full + 2, 2),
+        (full + 8, 8),
+        (MOST_HELD, MOST_HELD - full),
+    ] {
+        let jobs = of_the_longest_wait(7, many);
+        assert_eq!(least_given_up(&jobs, 7) as usize, lost);
     }
 }
 
 #[test]
 fn more_racks_than_slots_in_which_racks_wait() {
-    // On these boards the racks lie about as late as can be: 32 slots are there for
-    // them all, and the youngest 32 find theirs.
-    for many in 0..=256 {
-        let board = held_for_long(500, many);
-        assert_eq!(shortfall(&board), many.saturating_sub(32) as u32, "{many}");
+    // On these boards the racks lie about as late as can be: the slots of the longest
+    // wait are there for them all, and as many of the youngest find theirs.
+    let full = LONGEST_LAXITY as usize;
+    for many in 0..=MOST_HELD {
+        let lost = shortfall(&held_for_long(500, many));
+        assert_eq!(lost as usize, many.saturating_sub(full), "{many}");
     }
 }
 
 #[test]
-fn the_33rd_rack_of_a_day() {
-    // Four slots of eight racks with wait 32; 28 of them are left in slot 5.
-    let mut input = "D,0\n".to_string();
-    for ticket in 1..=32 {
-        input += &format!("A,{ticket},32,0\n");
-        input += if ticket % 8 == 0 { "B\n" } else { "" };
-    }
-    for (more, lost) in [(0, 0), (3, 0), (4, 0), (5, 1), (6, 2), (8, 4)] {
-        let mut day = input.clone();
-        for ticket in 33..33 + more {
-            day += &format!("A,{ticket},32,0\n");
-        }
-        let closed = closed_slots(&printed(&(day + "B\n")));
-        let shortfalls: Vec<u32> = closed.iter().map(|figures| figures[4]).collect();
-        assert_eq!(shortfalls, [0, 0, 0, 0, lost]);
+fn the_first_rack_too_many_of_a_day() {
+    for more in 0..=EIGHT {
+        let closed = closed_slots(&printed(&(up_to_first_overfull(more) + "B\n")));
+        let shortfalls = closed.iter().map(|figures| figures[4]);
+        let mut wanted = vec![0; FIRST_OVERFULL as usize - 1];
+        wanted.push(more.saturating_sub(ROOM_THERE));
+        assert_eq!(shortfalls.collect::<Vec<u32>>(), wanted);
     }
 }
 
 #[test]
-fn eight_racks_of_wait_32_in_every_slot() {
-    let mut input = "D,0\n".to_string();
-    for slot in 1..=50 {
-        for ticket in slot * 8 - 7..=slot * 8 {
-            input += &format!("A,{ticket},32,0\n");
-        }
-        input += "B\n";
-    }
-    // In slot k are 7k + 1 racks for 32 slots, until from slot 37 on the board is full.
-    // The racks of slot 5 have last slot 36; four of them are baked by then.
+fn eight_racks_of_the_longest_wait_in_every_slot() {
+    // The first racks that cannot all be baked have this last slot. Up to it the slots
+    // bake the tickets from 1 on, and of those racks the rest is given up.
+    let first_out = FIRST_OVERFULL + LONGEST_LAXITY - 1;
+    let rest = FIRST_OVERFULL * EIGHT - first_out;
+    let input = of_longest_waits(2 * LONGEST_LAXITY);
     for [slot, ticket, _, given_up, shortfall] in closed_slots(&printed(&input)) {
-        let (out, lost) = match slot {
-            1..=4 => (0, 0),
-            5..=35 => (0, 7 * slot - 31),
-            36 => (4, 221),
-            _ => (7, 224),
+        let out = match slot.cmp(&first_out) {
+            Ordering::Less => 0,
+            Ordering::Equal => rest,
+            Ordering::Greater => EIGHT - 1,
         };
+        // In slot k are 7k + 1 racks, until the board is full.
+        let racks = (7 * slot + 1).min(MOST_HELD as u32);
+        let lost = racks.saturating_sub(LONGEST_LAXITY);
         assert_eq!((given_up, shortfall), (out, lost), "{slot}");
-        assert_eq!(ticket <= 36, slot <= 36);
+        assert_eq!(ticket <= first_out, slot <= first_out);
     }
 }
 
@@ -150,12 +148,14 @@ fn slots_past_the_books_end_count() {
     assert_eq!(at_end(&[1, 1]), 1);
     assert_eq!(at_end(&[8; 8]), 0);
     assert_eq!(at_end(&[7; 8]), 1);
-    assert_eq!(at_end(&[32; 8]), 0);
+    assert_eq!(at_end(&[LONGEST_LAXITY; 8]), 0);
     // Two slots of the book and one past its end.
     assert_eq!(shortfall(&held(LAST_SLOT - 1, &[2, 3, 3])), 0);
     assert_eq!(shortfall(&held(LAST_SLOT - 1, &[3; 4])), 1);
-    for (many, lost) in [(32, 0), (33, 1), (256, 224)] {
-        assert_eq!(shortfall(&held_for_long(LAST_SLOT, many)), lost);
+    let full = LONGEST_LAXITY as usize;
+    for (many, lost) in [(full, 0), (full + 1, 1), (MOST_HELD, MOST_HELD - full)] {
+        let board = held_for_long(LAST_SLOT, many);
+        assert_eq!(shortfall(&board) as usize, lost);
     }
 }
 
@@ -208,7 +208,7 @@ fn an_excess_above_zero_is_no_shortfall() {
     for (waits, smallest) in [
         (&[5][..], 4),
         (&[2], 1),
-        (&[32], 31),
+        (&[LONGEST_LAXITY], i64::from(LONGEST_LAXITY) - 1),
         (&[3, 3, 5], 1),
         (&[9, 9, 9, 9], 5),
         // Exactly full.
@@ -286,43 +286,47 @@ fn the_order_of_the_racks_does_not_matter() {
 }
 
 #[test]
-fn full_boards_of_256() {
-    // Eight of each wait: 32 slots for all of them.
-    let even: Vec<u32> = (0..256).map(|place| place / 8 + 1).collect();
-    assert_eq!(by_slot(held(500, &even), 1), [(224, 7)]);
-    // All in their last slot but one; all in their last slot.
-    let mut waits = [1; 256];
-    waits[255] = 2;
-    assert_eq!(by_slot(held(500, &waits), 2), [(254, 254), (0, 0)]);
-    assert_eq!(by_slot(held(500, &[1; 256]), 2), [(255, 255), (0, 0)]);
-    // Any other has from 1 to 32 slots.
+fn full_boards() {
+    let full = MOST_HELD as u32;
+    // Eight of each wait: as many slots for all of them as the longest wait has.
+    let even: Vec<u32> = (0..full).map(|place| place / 8 + 1).collect();
+    assert_eq!(by_slot(held(500, &even), 1), [(full - LONGEST_LAXITY, 7)]);
+    // All in their last slot.
+    let mut waits = [1; MOST_HELD];
+    let all_but_one = [(full - 1, MOST_HELD - 1), (0, 0)];
+    assert_eq!(by_slot(held(500, &waits), 2), all_but_one);
+    // All in their last slot but one.
+    waits[MOST_HELD - 1] = 2;
+    let all_but_two = [(full - 2, MOST_HELD - 2), (0, 0)];
+    assert_eq!(by_slot(held(500, &waits), 2), all_but_two);
+    // Any other has from 1 slot to as many as the longest wait has.
     let mut draw = Draw::new(61);
     for _ in 0..200 {
         let board = samples::full_board(&mut draw, 700);
         let lost = shortfall(&board);
-        assert!((224..=255).contains(&lost), "{lost}");
-        assert_eq!(shortfall(&samples::all_due(board)), 255);
+        assert!((full - LONGEST_LAXITY..full).contains(&lost), "{lost}");
+        assert_eq!(shortfall(&samples::all_due(board)), full - 1);
     }
 }
 
 #[test]
 fn printed_as_a_sixth_field() {
-    let input = "D,1
+    let too_long = LONGEST_LAXITY + 1;
+    let input = format!(
+        "D,1
 B
 A,1,2,0
 A,2,2,1
 A,3,2,1
 B
-A,4,33,0
+A,4,{too_long},0
 A,5,1,
 A,6,3,0
 B
 B
 B
-A,7,32,0
-A,8,31,1
-B
-";
+"
+    );
     let wanted = [
         "D,1",
         "B,1,0,0,0,0",
@@ -340,27 +344,30 @@ B
         "G,3,5,1",
         "B,4,6,0,0,0",
         "B,5,0,0,0,0",
-        "A,7,37",
-        "A,8,36",
-        // Excess 30 at both waits.
-        "B,6,8,1,0,0",
     ];
-    assert_eq!(answers(input), wanted);
+    assert_eq!(answers(&input), wanted);
+}
+
+#[test]
+fn printed_as_0_where_the_excess_is_far_above_zero() {
+    // In slot 6 two racks; the excess at both waits is the longest wait less two.
+    let (longest, shorter) = (LONGEST_LAXITY, LONGEST_LAXITY - 1);
+    let closings = "B\n".repeat(5);
+    let input = format!("D,1\n{closings}A,7,{longest},0\nA,8,{shorter},1\nB\n");
+    let [last, other] = [longest, shorter].map(|wait| 6 + wait - 1);
+    let wanted = format!("A,7,{last} A,8,{other} B,6,8,1,0,0");
+    assert_eq!(answers(&input)[6..].join(" "), wanted);
 }
 
 #[test]
 fn the_greatest_shortfall_is_printed_whole() {
-    // The 37th slot of this day has 256 racks in their last slot.
-    let mut input = "D,0\n".to_string();
-    for slot in 1..=37 {
-        let wait = (38 - slot).min(32);
-        for ticket in slot * 8 - 7..=slot * 8 {
-            input += &format!("A,{ticket},{wait},0\n");
-        }
-        input += "B\n";
-    }
-    let seen = answers(&input);
-    assert!(seen.contains(&"B,37,41,0,255,255".to_string()));
+    // The last slot of this day has a full board of racks in their last slot, and those
+    // of the slots before are gone.
+    let (last, all_but_one) = (FIRST_OVERFULL + LONGEST_LAXITY, MOST_HELD - 1);
+    let first_left = FIRST_OVERFULL * EIGHT + 1;
+    let seen = answers(&of_one_last_slot(FIRST_OVERFULL));
+    let wanted = format!("B,{last},{first_left},0,{all_but_one},{all_but_one}");
+    assert!(seen.contains(&wanted));
 }
 
 #[test]

@@ -9,7 +9,7 @@ use model::board::{open, Board, Job};
 use model::calls::{admit, close, promise, withdraw};
 use model::draw::Draw;
 use model::edges;
-use model::limits::{LAST_SLOT, MOST_HELD};
+use model::limits::{LAST_SLOT, LONGEST_LAXITY, MOST_HELD};
 use model::refusal::Refusal;
 use model::samples;
 use model::soundness::is_sound;
@@ -109,7 +109,7 @@ fn seventeen_when_the_ticket_is_not_on_the_board() {
 fn seventeen_for_0_however_full_the_board_is() {
     let mut draw = Draw::new(132);
     is_refused(&samples::full_board(&mut draw, 99), 0, Refusal::NotWaiting);
-    for many in [0, 1, 7, 8, 255] {
+    for many in [0, 1, 7, 8, MOST_HELD - 1] {
         is_refused(&held_for_long(99, many), 0, Refusal::NotWaiting);
     }
 }
@@ -155,7 +155,7 @@ fn the_first_of_any_faults() {
         });
         let mut board = Board::holding(1, slot, 3, &jobs);
         if has(0) {
-            board.places[200].grade = 1;
+            board.places[MOST_HELD - 1].grade = 1;
         }
         // Each reason for 17, or none.
         for ticket in if has(2) { vec![0, 3, 4] } else { vec![1, 2] } {
@@ -294,7 +294,7 @@ fn one_after_the_other_until_only_this_slots_racks_are_left() {
 
 #[test]
 fn a_rack_in_its_last_slot_and_one_with_the_longest_wait() {
-    let mut board = worked(0, &[(2, 0), (2, 0), (32, 0)]);
+    let mut board = worked(0, &[(2, 0), (2, 0), (LONGEST_LAXITY, 0)]);
     close(&mut board, MOST_HELD).expect("a closing");
     for ticket in [2, 3] {
         assert_eq!(withdraw(&mut board, ticket), Ok(0));
@@ -331,7 +331,8 @@ fn shortfall_and_promise_are_those_of_the_racks_left() {
         let board = match number % 2 {
             0 => large_board(&mut draw, number / 2),
             _ => {
-                let (slot, wait) = (draw.between(32, LAST_SLOT), draw.between(1, 32));
+                let slot = draw.between(LONGEST_LAXITY, LAST_SLOT);
+                let wait = draw.between(1, LONGEST_LAXITY);
                 samples::filled_board(&mut draw, slot, wait, 9)
             }
         };
@@ -348,7 +349,7 @@ fn shortfall_and_promise_are_those_of_the_racks_left() {
         as_many += usize::from(after == before);
         if before == 0 {
             let wait = |board: &Board| match promise(board) {
-                Ok(0) => 33,
+                Ok(0) => LONGEST_LAXITY + 1,
                 answer => answer.expect("a sound board"),
             };
             assert!(wait(&left) <= wait(&board));

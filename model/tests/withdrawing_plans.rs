@@ -263,7 +263,10 @@ fn row_17_is_read_on_the_books_racks_in_date_and_not_yet_baked() {
     assert_eq!(in_book(&withdrawn, 3), Err(Refusal::NotWaiting));
     assert_eq!(in_book(&withdrawn, 4), Ok(()));
     // A refused closing bakes nothing in the book either.
-    let refused = [&calls[..], &[Call::Close { lent: 255 }]].concat();
+    let too_short = Call::Close {
+        lent: MOST_HELD - 1,
+    };
+    let refused = [&calls[..], &[too_short]].concat();
     assert_eq!(in_book(&refused, 4), Err(Refusal::NotWaiting));
 }
 

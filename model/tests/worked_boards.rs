@@ -5,7 +5,7 @@ mod common;
 use common::{answers, closings, worked};
 use model::board::{Board, Job};
 use model::calls::{admit, close, Closed};
-use model::limits::{LAST_SLOT, MOST_HELD};
+use model::limits::{LAST_SLOT, LONGEST_LAXITY, MOST_HELD};
 use model::refusal::Refusal;
 use model::rule::{excess, job_to_bake, tight_laxity, tight_set};
 
@@ -79,9 +79,20 @@ fn board_8_one_rack_and_none() {
 #[test]
 fn board_9_waits() {
     let mut board = worked(0, &[]);
-    assert_eq!(admit(&mut board, 1, 32, 0), Ok(32));
-    assert_eq!(admit(&mut board, 2, 33, 0), Err(Refusal::Laxity));
+    let longest = LONGEST_LAXITY;
+    assert_eq!(admit(&mut board, 1, longest, 0), Ok(longest));
+    assert_eq!(admit(&mut board, 2, longest + 1, 0), Err(Refusal::Laxity));
     assert_eq!(admit(&mut board, 2, 0, 0), Err(Refusal::Laxity));
+}
+
+#[test]
+fn board_9_waits_as_lines() {
+    let longest = LONGEST_LAXITY;
+    let too_long = longest + 1;
+    let input = format!("D,0\nA,1,{longest},0\nA,2,{too_long},0\nA,2,0,0\nB\nA,2,{longest},0\n");
+    let [first, second] = [1, 2].map(|slot| slot + longest - 1);
+    let wanted = format!("D,0 A,1,{first} R,3,5 R,4,5 B,1,1,0,0,0 A,2,{second}");
+    assert_eq!(answers(&input).join(" "), wanted);
 }
 
 #[test]
@@ -115,7 +126,8 @@ fn board_9_last_slot_of_the_book() {
 fn board_9_tickets() {
     let mut board = worked(0, &[(5, 0)]);
     assert_eq!(admit(&mut board, 1, 5, 0), Err(Refusal::Ticket));
-    assert_eq!(admit(&mut board, 1, 33, 0), Err(Refusal::Ticket));
+    let too_long = LONGEST_LAXITY + 1;
+    assert_eq!(admit(&mut board, 1, too_long, 0), Err(Refusal::Ticket));
 }
 
 #[test]

@@ -55,7 +55,7 @@ fn changed(draw: &mut Draw) -> Board {
         0 => board.depth = draw.between(0, 255),
         1 => board.slot = near(draw, board.slot, u32::MAX),
         2 => board.highest_ticket = near(draw, board.highest_ticket, u32::MAX),
-        3 => board.count = near(draw, board.count, 300),
+        3 => board.count = near(draw, board.count, 2 * MOST_HELD as u32),
         4 => job.ticket = near(draw, job.ticket, u32::MAX),
         5 => job.admitted = near(draw, job.admitted, u32::MAX),
         6 => job.deadline = near(draw, job.deadline, u32::MAX),

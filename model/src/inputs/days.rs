@@ -38,8 +38,8 @@ pub fn overfull(draw: &mut Draw, slots: u32) -> Vec<u8> {
     with_questions(draw, &bytes, 8)
 }
 
-/// Turns of up to 32 slots. Nearly every rack of a turn has the turn's last slot, and
-/// all that are left then but one are given up.
+/// Turns of no more slots than the longest wait. Nearly every rack of a turn has the
+/// turn's last slot, and all that are left then but one are given up.
 pub fn given_up(draw: &mut Draw, slots: u32) -> Vec<u8> {
     let mut writer = opened(draw);
     let mut left = slots;

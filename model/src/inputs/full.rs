@@ -20,8 +20,9 @@ pub struct Hovering {
 /// and as long as no more are lost than so many.
 const LEVELS: [(usize, u32); 7] = [(2, 0), (1, 0), (0, 0), (0, 1), (0, 2), (0, 3), (0, 9)];
 
-/// Turns of up to 32 slots. Nearly every rack of a turn has the turn's last slot; at
-/// first fewer come than fit, or just as many, and later on a few more. A rack that is
+/// Turns of no more slots than the longest wait. Nearly every rack of a turn has the
+/// turn's last slot; at first fewer come than fit, or just as many, and later on a few
+/// more: about five times in the longest turn it becomes one level more. A rack that is
 /// taken back makes room for another one.
 pub fn shortfall(draw: &mut Draw, slots: u32) -> Vec<u8> {
     let mut day = Hovering::opened(draw);
@@ -31,7 +32,7 @@ pub fn shortfall(draw: &mut Draw, slots: u32) -> Vec<u8> {
         let left = turn - slot % turn;
         if left == turn {
             level = draw.index(4);
-        } else if draw.one_in(6) {
+        } else if draw.one_in(LONGEST_LAXITY / 5) {
             level = (level + 1).min(LEVELS.len() - 1);
         }
         if draw.one_in(3) {

@@ -98,7 +98,7 @@ pub const KINDS: [Kind; 16] = [
     },
     Kind {
         name: "pages",
-        about: "so many closings exactly; from 37 on a slot gives up 255 racks",
+        about: "so many closings exactly; if they are enough, a slot gives up a full board but one",
         size: 97,
         make: pages::pages,
     },

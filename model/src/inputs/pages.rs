@@ -6,15 +6,15 @@ use super::writer::Writer;
 use crate::draw::Draw;
 use crate::limits::{DEEPEST, LONGEST_LAXITY, MOST_PER_SLOT};
 
-/// Slots in which enough racks come that one more is baked in each slot until 32
-/// slots later: all but one of the eight of each slot are still there.
+/// Early slots of a crowd. After them all but one of the eight racks of each are still
+/// there, at least one for each further slot up to the last one.
 const EARLY: u32 = (LONGEST_LAXITY - 1) / (MOST_PER_SLOT as u32 - 1) + 1;
 
 /// Slots of a crowd.
 const CROWD: u32 = EARLY + LONGEST_LAXITY;
 
 /// So many closings, refused lines, withdrawals and questions between them. Many slots
-/// bake nothing, and where there is room one of them gives up 255 racks.
+/// bake nothing, and where there is room one of them gives up a full board but one rack.
 pub fn pages(draw: &mut Draw, closings: u32) -> Vec<u8> {
     let mut writer = Writer::new();
     for _ in 0..draw.between(0, 2) {

@@ -7,6 +7,7 @@ use super::writer::{admitting, withdrawing, zeros, Writer};
 use crate::board::worst_grade;
 use crate::draw::Draw;
 use crate::limits::{DEEPEST, LONGEST_LAXITY, LONGEST_LINE, MOST_PER_SLOT};
+use crate::samples;
 
 /// Bytes that a damaged line may get.
 const STRAY: &[u8] = b"\r\0\t ,,,,;\"'+-.0123456789ABDQWabdqwGRT\x0b\x7f\x80\xbf\xc3\xff";
@@ -82,6 +83,8 @@ pub fn refusals(draw: &mut Draw, lines: u32) -> Vec<u8> {
         writer.line(&line);
     }
     writer.open(draw.between(0, DEEPEST));
+    let grade = writer.grade(draw);
+    writer.admit(draw, LONGEST_LAXITY + 1, grade);
     for _ in 0..MOST_PER_SLOT + 1 {
         let grade = writer.grade(draw);
         writer.admit(draw, LONGEST_LAXITY, grade);
@@ -189,7 +192,8 @@ fn doubtful_admitting(draw: &mut Draw, writer: &mut Writer) -> Vec<u8> {
     let highest = writer.highest;
     let next = highest.saturating_add(1);
     let ticket = draw.pick(&[next, next, highest, highest.saturating_sub(1), 0]);
-    let laxity = draw.pick(&[1, 5, LONGEST_LAXITY, LONGEST_LAXITY + 1, 0, u32::MAX]);
+    let too_long = samples::too_long_laxity(draw);
+    let laxity = draw.pick(&[1, 5, LONGEST_LAXITY, too_long, 0, u32::MAX]);
     let worst = worst_grade(writer.depth);
     let grades = [0, worst, worst + 1, worst + 2, u32::MAX].map(Some);
     let grade = draw.pick(&[&grades[..], &[None]].concat());

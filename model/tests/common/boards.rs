@@ -2,8 +2,27 @@
 
 use model::board::{Board, Job};
 use model::draw::Draw;
-use model::limits::{LAST_SLOT, LONGEST_LAXITY};
+use model::limits::{LAST_SLOT, LONGEST_LAXITY, MOST_HELD, MOST_PER_SLOT};
+use model::promise::further;
 use model::samples;
+
+/// The first slot in which a board can hold a rack for each slot up to the longest wait,
+/// as eight racks come in a slot.
+pub const FIRST_SOLD_OUT: u32 = (LONGEST_LAXITY - 1) / MOST_PER_SLOT as u32 + 1;
+
+/// As many racks as a board about full has: some more than the longest wait has slots.
+pub const ABOUT_FULL: u32 = LONGEST_LAXITY + 8;
+
+/// A slot in which a board can hold a rack for each slot up to the longest wait.
+pub fn slot_to_sell_out(draw: &mut Draw) -> u32 {
+    samples::slot(draw).max(FIRST_SOLD_OUT)
+}
+
+/// So many racks of the longest wait that all came in this slot. No board holds more
+/// than eight of them, but a list may.
+pub fn of_the_longest_wait(slot: u32, many: usize) -> Vec<Job> {
+    vec![further(LONGEST_LAXITY, slot); many]
+}
 
 /// A board of depth 0 with racks of these waits. Eight of them were admitted in this
 /// slot, eight in the one before it, and so on back.
@@ -23,7 +42,7 @@ pub fn held(slot: u32, waits: &[u32]) -> Board {
 
 /// So many racks, each with the longest wait that it can have on such a board.
 pub fn held_for_long(slot: u32, many: usize) -> Board {
-    let waits = (0..many).map(|place| 32 - (many - 1 - place) as u32 / 8);
+    let waits = (0..many).map(|place| LONGEST_LAXITY - (many - 1 - place) as u32 / 8);
     held(slot, &waits.collect::<Vec<_>>())
 }
 
@@ -45,12 +64,12 @@ pub fn drawn_board(draw: &mut Draw, most: u32, number: u32) -> Board {
     board
 }
 
-/// A large board: of any size, about full, or with all 256 racks.
+/// A large board: of any size, about full, or with all places taken.
 pub fn large_board(draw: &mut Draw, number: u32) -> Board {
     let slot = draw.between(LONGEST_LAXITY, LAST_SLOT);
     match number % 4 {
-        0 => drawn_board(draw, 256, number / 4),
-        1 => drawn_board(draw, 40, number / 4),
+        0 => drawn_board(draw, MOST_HELD as u32, number / 4),
+        1 => drawn_board(draw, ABOUT_FULL, number / 4),
         2 => drawn_board(draw, 15, number / 4),
         _ => samples::full_board(draw, slot),
     }

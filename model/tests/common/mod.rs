@@ -4,6 +4,7 @@
 #![allow(dead_code)]
 
 pub mod boards;
+pub mod crowds;
 pub mod paper;
 pub mod spread;
 pub mod trials;
@@ -222,7 +223,7 @@ pub fn book_from(jobs: &[Job], slot: u32) -> Book {
 }
 
 /// The least number of these racks that any plan from this slot on gives up, by
-/// matching. No rack waits longer than 32 slots, so no later slot is of use.
+/// matching. No rack waits past the longest wait, so no later slot is of use.
 pub fn least_by_matching(jobs: &[Job], slot: u32) -> u32 {
     let most = most_baked(&book_from(jobs, slot), LONGEST_LAXITY as usize);
     (jobs.len() - most) as u32
@@ -241,6 +242,7 @@ pub fn promised_by_matching(wait: u32, jobs: &[Job], slot: u32) -> bool {
 
 /// The least wait that can be promised, by matching; 0 where there is none.
 pub fn promise_by_matching(jobs: &[Job], slot: u32) -> u32 {
-    let promised = (1..=32).find(|&wait| promised_by_matching(wait, jobs, slot));
+    let mut waits = 1..=LONGEST_LAXITY;
+    let promised = waits.find(|&wait| promised_by_matching(wait, jobs, slot));
     promised.unwrap_or(0)
 }

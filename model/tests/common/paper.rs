@@ -24,6 +24,11 @@ pub fn closing([slot, ticket, grade, given_up]: [u32; 4]) -> String {
     line(&[(7, slot), (18, ticket), (20, grade), (24, given_up)])
 }
 
+/// The line of totals: racks baked, racks given up.
+pub fn totals(baked: u32, given_up: u32) -> String {
+    line(&[(18, baked), (24, given_up)])
+}
+
 /// The text of a page with these lines of closings and this line of totals.
 pub fn page<L: AsRef<str>>(closings: &[L], totals: &str) -> String {
     let mut lines = vec![HEADING];

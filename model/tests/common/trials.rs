@@ -51,14 +51,17 @@ impl Trial {
         Book::drawn(self.depth, self.slot, self.highest, &self.calls)
     }
 
-    /// Its stretches; the withdrawal between two of them is a call of neither.
+    /// Its stretches. No withdrawal is a call of them: one that is let through stands
+    /// between two of them, and one that the book refuses might be let through on the
+    /// board of another rule, on which other racks are left.
     pub fn stretches(&self) -> Vec<Stretch> {
         let first = Book::begin(self.depth, self.slot, self.highest);
         let mut stretches = vec![Stretch::begin(first)];
         for call in &self.calls {
             let stretch = stretches.last_mut().expect("there is a first one");
-            match stretch.book.take(call) {
-                Ok(Some(next)) => stretches.push(Stretch::begin(next)),
+            match (stretch.book.take(call), call) {
+                (Ok(Some(next)), _) => stretches.push(Stretch::begin(next)),
+                (_, Call::Withdraw { .. }) => {}
                 _ => stretch.calls.push(*call),
             }
         }
