@@ -1,4 +1,4 @@
-//! Why a call refused: an enum for each call, with the numbers and words of the board's paper.
+//! Why a call refused: an enum for each call, with the numbers of the board's paper and, but for its limits, its words.
 
 use std::error::Error;
 use std::fmt;
