@@ -40,7 +40,7 @@ fn changed(draw: &mut Draw) -> Board {
         0 => board.depth = draw.between(0, 255),
         1 => board.slot = board.slot.wrapping_add(step),
         2 => board.highest_ticket = board.highest_ticket.wrapping_add(step),
-        3 => board.count = draw.between(0, MOST_HELD as u32 + 9),
+        3 => board.count = draw.between(0, MOST_HELD as u32 + 44),
         4 => job.ticket = job.ticket.wrapping_add(step),
         5 => job.admitted = job.admitted.wrapping_add(step),
         6 => job.deadline = job.deadline.wrapping_add(step),
