@@ -1,4 +1,4 @@
-//! Two checkouts' calls and days, both beside the model and the program that sorts.
+//! Two checkouts' calls and days, both beside the model and the program that sorts, the days beside the one that counts too.
 
 use crate::calls::PASSES;
 use crate::days::{Day, Ran};
@@ -20,15 +20,24 @@ const COLUMNS: [&str; 8] = [
     "other of sorting",
 ];
 
-/// The benchmarks are this source linked with either library, or each checkout's own where the calls' types differ. Programs: this checkout's, the other's, the model's, the one that sorts. This checkout's
-/// lists and outputs are the model's; of the other's it is said in how many places they are not.
+/// What is said of each day besides.
+const DAY_COLUMNS: [&str; 4] = [
+    "this of counts",
+    "other of counts",
+    "a slot, this",
+    "a slot, other",
+];
+
+/// The benchmarks are this source linked with either library, or each checkout's own where the calls' types differ. Programs: this checkout's, the
+/// other's, the model's, the one that sorts, the one that counts. This checkout's lists and outputs are the model's; of the other's it is said in how
+/// many places they are not.
 pub fn run(this: &str, other: &str, programs: &[&str]) -> io::Result<()> {
     let closings = calls(this, other)?;
-    head(&[&COLUMNS[..], &["a slot, this", "a slot, other"]].concat());
+    head(&[&COLUMNS[..], &DAY_COLUMNS].concat());
     let mut days = 0;
     Day::each(programs, |day, ran| {
-        let [this, other, model, sorting] = [0, 1, 2, 3].map(|side| ran[side].printed);
-        let same = this == model && this == sorting;
+        let [this, other, model, sorting, counts] = [0, 1, 2, 3, 4].map(|side| ran[side].printed);
+        let same = this == model && this == sorting && this == counts;
         assert!(same, "{}: not all print the same", day.name());
         days += u32::from(other != this);
         row(&cells(day, ran));
@@ -98,7 +107,7 @@ fn unsteadiness(here: &[Timed], there: &[Timed]) {
 }
 
 fn cells(day: &Day, ran: &[Ran]) -> Vec<String> {
-    let [this, other, model, sorting] = [0, 1, 2, 3].map(|side| Some(&ran[side].time));
+    let [this, other, model, sorting, counts] = [0, 1, 2, 3, 4].map(|side| Some(&ran[side].time));
     let slot = |time: Duration| time / day.slots;
     vec![
         day.name(),
@@ -109,6 +118,8 @@ fn cells(day: &Day, ran: &[Ran]) -> Vec<String> {
         of(other, model),
         of(this, sorting),
         of(other, sorting),
+        of(this, counts),
+        of(other, counts),
         time(this.copied().map(slot).as_ref()),
         time(other.copied().map(slot).as_ref()),
     ]

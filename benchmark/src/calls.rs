@@ -3,6 +3,7 @@
 
 use crate::convert;
 use crate::timed::Timed;
+use benchmark::single;
 use model::board::{Board, Job};
 use model::calls::{self, Closed, Expired};
 use model::draw::Draw;
@@ -119,7 +120,7 @@ fn least(sides: &mut [&mut dyn FnMut()]) -> Vec<Duration> {
 }
 
 fn close_by_sorting(board: &mut Board) -> Closed {
-    let find = |jobs: &[Job], slot, depth| benchmark::job_to_bake(&mut jobs.to_vec(), slot, depth);
+    let find = |jobs: &[Job], slot, depth| single::job_to_bake(jobs, slot, depth);
     calls::close_by(board, MOST_HELD, find).expect("a sound board")
 }
 
@@ -216,7 +217,7 @@ fn promising(left: &str, board: Board) -> Timed {
     let given = convert::board(&board);
     let by_sorting = |board: &Board| {
         assert!(is_sound(board));
-        benchmark::least_wait(&mut board.jobs().to_vec(), board.slot)
+        single::least_wait(board.jobs(), board.slot)
     };
     let wait = oven::calls::promise(given).wait.0;
     assert_eq!(Ok(wait), calls::promise(&board));

@@ -15,12 +15,19 @@ use std::{env, thread};
 /// A day of depth 3: so many slots, so many racks in each, their waits from the shortest to the longest. Each program runs so many times.
 pub struct Day {
     pub slots: u32,
-    racks: u32,
+    pub racks: u32,
     shortest: u32,
-    rounds: u32,
+    pub rounds: u32,
 }
 
-const fn day(slots: u32, racks: u32, shortest: u32, rounds: u32) -> Day {
+/// A rack as it arrives; the tickets are 1, 2 and so on.
+#[derive(Clone, Copy)]
+pub struct Arrival {
+    pub wait: u8,
+    pub grade: u8,
+}
+
+pub const fn day(slots: u32, racks: u32, shortest: u32, rounds: u32) -> Day {
     Day {
         slots,
         racks,
@@ -30,14 +37,15 @@ const fn day(slots: u32, racks: u32, shortest: u32, rounds: u32) -> Day {
 }
 
 /// Where every wait is the longest, the board is as full as a day makes it.
-const DAYS: [Day; 7] = [
+const DAYS: [Day; 8] = [
     day(25_000, 8, 1, 5),
     day(50_000, 8, 1, 5),
     day(100_000, 8, 1, 5),
     day(100_000, 2, 1, 5),
     day(20_000, 8, LONGEST_LAXITY, 5),
+    day(200_000, 8, LONGEST_LAXITY, 5),
     day(1_000_000, 2, 1, 3),
-    day(1_000_000, 8, 1, 3),
+    day(1_000_000, 8, 1, 5),
 ];
 
 /// A program's shortest run, what was last seen of it, and a number that stands for what it printed.
@@ -58,18 +66,22 @@ impl Day {
         format!("a day of {slots} slots, {racks} racks each, {waits}")
     }
 
+    /// All racks of the day, from one fixed stepping formula.
+    pub fn arrivals(&self) -> impl Iterator<Item = Arrival> {
+        let (mut draw, shortest) = (Draw::new(11), self.shortest);
+        (0..self.slots * self.racks).map(move |_| Arrival {
+            wait: draw.between(shortest, LONGEST_LAXITY) as u8,
+            grade: draw.between(0, 7) as u8,
+        })
+    }
+
     fn lines(&self) -> String {
-        let mut draw = Draw::new(11);
         let mut text = String::from("D,3\n");
-        for slot in 0..self.slots {
-            for rack in 1..=self.racks {
-                let (wait, grade) = (
-                    draw.between(self.shortest, LONGEST_LAXITY),
-                    draw.between(0, 7),
-                );
-                let _ = writeln!(text, "A,{},{wait},{grade}", slot * self.racks + rack);
+        for (ticket, Arrival { wait, grade }) in (1..).zip(self.arrivals()) {
+            let _ = writeln!(text, "A,{ticket},{wait},{grade}");
+            if ticket % self.racks == 0 {
+                text.push_str("B\n");
             }
-            text.push_str("B\n");
         }
         text
     }
@@ -106,12 +118,14 @@ impl Day {
     }
 }
 
-/// What the system says of a running program, as last seen: its peak memory in kB, its reads and writes, and its time inside the system.
+/// What the system says of a running program, as last seen: its peak memory in kB, its reads and writes, its time on a processor, and of that its time
+/// inside the system.
 #[derive(Clone, Copy, Default)]
 pub struct Seen {
     pub peak: u64,
     pub reads: u64,
     pub writes: u64,
+    pub processor: Duration,
     pub system: Duration,
 }
 
@@ -119,6 +133,7 @@ impl Seen {
     fn of(id: u32) -> Option<Seen> {
         let text = |name: &str| fs::read_to_string(format!("/proc/{id}/{name}")).ok();
         let (status, io, stat) = (text("status")?, text("io")?, text("stat")?);
+        let nanoseconds = text("schedstat")?.split_whitespace().next()?.parse().ok()?;
         // behind the name, which ends with the last bracket, the time in the system is the 13th word, in hundredths of a second
         let ticks: u64 = stat
             .rsplit(')')
@@ -131,6 +146,7 @@ impl Seen {
             peak: named(&status, "VmHWM:")?,
             reads: named(&io, "syscr:")?,
             writes: named(&io, "syscw:")?,
+            processor: Duration::from_nanos(nanoseconds),
             system: Duration::from_millis(10 * ticks),
         })
     }

@@ -1,22 +1,27 @@
-//! One checkout's calls and days beside the model and the program that sorts.
+//! One checkout's calls and days beside the model and the two programs written for speed.
 
 use crate::calls::{self, PASSES};
 use crate::days::{Day, Ran};
+use crate::handed;
 use crate::tables::{growth, head, of, row, time};
 use crate::timed::{keep_least, other_lists, Timed};
 use std::io;
 
-/// Programs: ours, the model's, the one that sorts.
+/// Programs: ours, the model's, the one that sorts, the one that counts.
 pub fn run(programs: &[&str]) -> io::Result<()> {
     calls();
+    handed::run();
     head(&[
         "what",
         "ours",
         "a slot",
         "model",
         "sorting",
+        "counts",
         "of the model",
         "of sorting",
+        "of counts",
+        "on a processor, each",
         "peak memory of each",
         "our reads, writes, time in the system",
     ]);
@@ -61,11 +66,8 @@ fn calls() {
 }
 
 fn cells(day: &Day, ran: &[Ran]) -> Vec<String> {
-    let [ours, model, sorting] = [0, 1, 2].map(|side| Some(&ran[side].time));
-    let peaks: Vec<String> = ran
-        .iter()
-        .map(|ran| format!("{} kB", ran.seen.peak))
-        .collect();
+    let [ours, model, sorting, counts] = [0, 1, 2, 3].map(|side| Some(&ran[side].time));
+    let each = |said: fn(&Ran) -> String| ran.iter().map(said).collect::<Vec<_>>().join(", ");
     let seen = ran[0].seen;
     vec![
         day.name(),
@@ -73,9 +75,12 @@ fn cells(day: &Day, ran: &[Ran]) -> Vec<String> {
         time(Some(&(ran[0].time / day.slots))),
         time(model),
         time(sorting),
+        time(counts),
         of(ours, model),
         of(ours, sorting),
-        peaks.join(", "),
+        of(ours, counts),
+        each(|ran| time(Some(&ran.seen.processor))),
+        each(|ran| format!("{} kB", ran.seen.peak)),
         format!(
             "{}, {}, {:.2}s",
             seen.reads,
