@@ -13,7 +13,6 @@ use board::Board;
 use board::Laxity;
 use board::Slot;
 use board::Tally;
-use printing::Line;
 
 // A slot closed: the ticket and grade baked, and the shortfall. The jobs given up stand beside it in two lists, tickets and grades.
 pub struct Closing {
@@ -35,18 +34,17 @@ pub enum Answer {
 }
 
 // Bytes that are enough for any answer: a B line, and a G line for each job that a board holds.
-pub const ANSWER_ROOM: usize = (1 + Board::PLACES) * Line::ROOM;
+pub const ANSWER_ROOM: usize = (1 + Board::PLACES) * printing::LINE_ROOM;
 
 // Bytes that are enough for the tally.
-pub const TALLY_ROOM: usize = Tally::GRADES * Line::ROOM;
+pub const TALLY_ROOM: usize = Tally::GRADES * printing::LINE_ROOM;
 
-// Prints a line at `at`; where it ends.
+// Prints a line at `at`, where there is room for it; where it ends.
 fn print_at(out: &mut [u8], at: usize, letter: u8, numbers: &[u64]) -> usize
     requires { ⌜ (length (now numbers) ≤ line-numbers) × (at + room ≤ length (now out)) ⌝ }
     ensures { λ r. ⌜ PutWithin room (printed letter (now (numbers .entry))) (now (out .entry)) at r (now (out .exit)) ⌝ }
 {
-    let l = printing::print_line(letter, numbers);
-    printing::put_line(out, at, l)
+    printing::print_at(out, at, letter, numbers)
 }
 
 // Prints a line for each job given up; where the last one ends.

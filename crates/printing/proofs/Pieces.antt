@@ -1,24 +1,13 @@
 -- Output in pieces: bytes that are left to be put stand behind those that were.
 use mathlib.Core.Path.{_≡_, refl, sym, subst, _∙_}
-use mathlib.Core.List.{[], _++_}
-use Prim.Native.Nat.{ℕ, _+_, _≤_}
+use mathlib.Core.List.{[], _∷_, _++_}
+use Prim.Native.Nat.{ℕ, _+_, _≤_, _<_}
 use native.Mathlib.Omega.{arith}
-use lib.ListN.{length, length-append}
+use lib.ListN.{length, set, length-append}
 use Rattle.lines.specs.Bytes.{Bytes}
-use Rattle.printing.specs.Lines.{room, put, line-of, with-line, end-after}
-use Rattle.printing.specs.declared.Line.{Line}
-use Rattle.printing.proofs.Puts.{put-none, put-append}
-use Rattle.printing.proofs.Placed.{whole-placed, whole-end}
+use Rattle.printing.specs.Lines.{put}
+use Rattle.printing.proofs.Puts.{put-none, put-append, put-one}
 use Rattle.printing.specs.Puts.{PutWithin}
-
--- a line made and put
-pub line-printed : (out : Bytes) (at : ℕ) (bs : Bytes) (l : Line) (end : ℕ) (out' : Bytes) → at + room ≤ length out → l ≡ line-of bs → l .len ≤ room
-    → end ≡ end-after out at l → out' ≡ with-line out at l → PutWithin room bs out at end out'
-unfolding line-of
-line-printed out at bs l end out' fits e h p q =
-    let short : length bs ≤ room = rw e at h in
-    let end-is : end ≡ at + length bs = rw e at p ∙ whole-end out at bs short (omega arith) in
-    record { end = end-is; within = omega arith; bytes = rw e at q ∙ whole-placed out at bs short (omega arith) }
 
 -- of the bytes `all`, to be put at `at` in `out`, the bytes `rest` are left, to be put at `here` in `now`
 pub record Left (all out : Bytes) (at : ℕ) (rest now : Bytes) (here : ℕ) : Type 0 where
@@ -34,6 +23,11 @@ module _ {all out : Bytes} {at : ℕ} where
       → here' ≡ here + length bs → now' ≡ put now here bs → Left all out at rest now' here'
   fewer-left bs rest now here now' here' l h e p =
       record { end = omega (arith, l .end, length-append bs rest); bytes = rw (p, e) (put-append now here bs rest h ∙ l .bytes) }
+
+  -- one byte more
+  pub byte-fewer : (b : ℕ) (rest now : Bytes) (here : ℕ) → Left all out at (b ∷ rest) now here → here < length now
+      → Left all out at rest (set now here b) (here + 1)
+  byte-fewer b rest now here l h = fewer-left (b ∷ []) rest now here _ _ l (omega arith) refl (put-one now here b h)
 
   pub none-left : (now : Bytes) (here : ℕ) → Left all out at [] now here → (here ≡ at + length all) × (now ≡ put out at all)
   none-left now here l = (omega (arith, l .end), sym (put-none now here) ∙ l .bytes)

@@ -1,15 +1,14 @@
 -- Laws of bytes put into a buffer: what stands before and behind them, and one byte more.
 use mathlib.Core.List.{[], _∷_, _++_, append-assoc}
 use mathlib.Core.Path.{_≡_, ap, sym, _∙_}
-use Prim.Native.Nat.{ℕ, suc, _+_, _≤_, _<_}
-use native.Mathlib.Nat.{zero-add, add-zero}
+use Prim.Native.Nat.{ℕ, _+_, _≤_, _<_}
+use native.Mathlib.Nat.{add-zero}
 use native.Mathlib.Numerals.{add-one}
 use native.Mathlib.Omega.{arith}
-use lib.ListN.{length, take, drop, set, replicate, length-append, length-set, length-drop, take-append-drop}
-use lib.Seq.{take-at, drop-at, drop-drop, take-set-le, drop-cons, drop-set-lt, set-split, getD-set-same, length-take-le, paste}
-use Rattle.lists.proofs.Parts.{drop-replicate}
+use lib.ListN.{length, take, drop, set, length-append, length-set, length-drop, take-append-drop}
+use lib.Seq.{take-at, drop-at, drop-drop, take-append-le, take-take, set-split, length-take-le, paste}
 use Rattle.lines.specs.Bytes.{Bytes}
-use Rattle.printing.specs.Lines.{put, line-of, room}
+use Rattle.printing.specs.Lines.{put}
 
 module _ (out : Bytes) (at : ℕ) (bs : Bytes) where
   parted : put out at bs ≡ (take at out ++ bs) ++ drop (at + length bs) out
@@ -36,23 +35,29 @@ put-append out at cs bs h =
     parted (put out at cs) n bs
     ∙ rw (put-start out at cs h, ← drop-drop (length bs) n (put out at cs), rest, drop-drop, e, parted out at (cs ++ bs)) (simp append-assoc)
 
--- the last byte may be put first
-pub put-last : (out : Bytes) (at : ℕ) (cs : Bytes) (b : ℕ) → at + length cs < length out
-    → put (set out (at + length cs) b) at cs ≡ put out at (cs ++ (b ∷ []))
+-- and before them
+pub put-before : (out : Bytes) (at : ℕ) (cs bs : Bytes) → at + length cs ≤ length out
+    → put (put out (at + length cs) bs) at cs ≡ put out at (cs ++ bs)
 unfolding put
-put-last out at cs b h =
+put-before out at cs bs h =
     let n = at + length cs in
-    let e : suc n ≡ at + length (cs ++ (b ∷ [])) = omega (arith, length-append cs (b ∷ [])) in
-    rw (take-set-le at out n b (omega arith), drop-set, e) (simp append-assoc)
-  where
-    drop-set : drop (at + length cs) (set out (at + length cs) b) ≡ b ∷ drop (suc (at + length cs)) out
-    drop-set =
-        let n = at + length cs in
-        rw (drop-cons (set out n b) n 0 (rw length-set h), getD-set-same out n b 0 h, drop-set-lt (suc n) out n b (omega arith))
+    let rest = bs ++ drop (n + length bs) out in
+    let k : length (take n out) ≡ n = length-take-le n out h in
+    let e : n + length bs ≡ at + length (cs ++ bs) = omega (arith, length-append cs bs) in
+    rw (take-append-le at (take n out) rest (omega arith), take-take at n out (omega arith), drop-at (take n out) rest n k, e) (simp append-assoc)
 
 pub put-one : (out : Bytes) (at b : ℕ) → at < length out → set out at b ≡ put out at (b ∷ [])
 unfolding put
 put-one out at b h = rw add-one (set-split out at b h)
+
+-- the last byte may be put first
+pub put-last : (out : Bytes) (at : ℕ) (cs : Bytes) (b : ℕ) → at + length cs < length out
+    → put (set out (at + length cs) b) at cs ≡ put out at (cs ++ (b ∷ []))
+put-last out at cs b h = rw (put-one out (at + length cs) b h) (put-before out at cs (b ∷ []) (omega arith))
+
+-- of two also
+pub put-two : (out : Bytes) (at a b : ℕ) → at + 1 < length out → set (set out (at + 1) b) at a ≡ put out at (a ∷ b ∷ [])
+put-two out at a b h = put-one (set out (at + 1) b) at a (rw length-set (omega arith)) ∙ put-last out at (a ∷ []) b h
 
 -- the first byte may be put before the others
 pub put-first : (out : Bytes) (at b : ℕ) (bs : Bytes) → at < length out → put (set out at b) (at + 1) bs ≡ put out at (b ∷ bs)
@@ -66,11 +71,6 @@ put-none out at = rw add-zero (take-append-drop at out)
 -- the first n bytes of a list, as a loop copies them
 pub put-taken : (out : Bytes) (at : ℕ) (l : Bytes) (n : ℕ) → n ≤ length l → paste out at l n ≡ put out at (take n l)
 put-taken out at l n h = rw (parted out at (take n l), length-take-le n l h)
-
--- bytes put at the start of zeros
-pub put-line-of : (bs : Bytes) → put (replicate room 0) 0 bs ≡ line-of bs .bytes
-unfolding put line-of
-put-line-of bs = rw (drop-replicate, zero-add)
 
 -- the buffer is as long as before
 pub put-length : (out : Bytes) (at : ℕ) (bs : Bytes) → at + length bs ≤ length out → length (put out at bs) ≡ length out
