@@ -1,3 +1,4 @@
 pub mod Commas
+pub mod Ends
 pub mod Digits
 pub mod Blank

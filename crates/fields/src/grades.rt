@@ -1,12 +1,16 @@
 // The grade of a line that admits: read, and what is meant by it.
 ghost use mathlib.Core.Path.{_≡_};
-ghost use Prim.Native.Nat.{min};
+ghost use Prim.Native.Nat.{_+_, min};
+ghost use lib.ListN.{drop};
+ghost use Rattle.lists.specs.Before.{before};
 ghost use Rattle.board.specs.Limits.{deepest};
+ghost use Rattle.lines.specs.Bytes.{comma};
 ghost use Rattle.lines.specs.Fields.{a-grade, grade-meant};
+ghost use Rattle.lines.specs.Reading.{field};
 ghost use Rattle.fields.specs.Numbers.{field-read};
 ghost use Rattle.fields.specs.Grades.{grade-of, grade-result};
 use crate::numbers::Field;
-use crate::numbers::number_field;
+use crate::numbers::number_at;
 use board::Board;
 
 // A grade as a line has it.
@@ -21,17 +25,37 @@ pub enum GradeField {
     Bad,
 }
 
-// A grade: a number, or blank.
-pub fn grade_field(f: &[u8]) -> GradeField
-    ensures { λ r. ⌜ grade-result r ≡ field-read a-grade (now (f .entry)) ⌝ }
+// A grade field's answer, and where the field ends.
+pub struct GradeAt {
+    pub grade: GradeField,
+    pub end: usize,
+}
+
+// A grade, from where its field begins: a number, or blank.
+pub fn grade_at(line: &[u8], from: usize) -> GradeAt
+    ensures { λ r. ⌜ (r .end ≡ from + before comma (drop from (now (line .entry))))
+        × (grade-result (r .grade) ≡ field-read a-grade (field 0 (drop from (now (line .entry))))) ⌝ }
 {
-    if f.len() == 0 {
-        return GradeField::Is(Grade::Blank);
+    let read = number_at(line, from);
+    let end = read.end;
+    let bytes = end - from;
+    if bytes == 0 {
+        return GradeAt {
+            grade: GradeField::Is(Grade::Blank),
+            end,
+        };
     }
-    let Field::Number(n) = number_field(f) else {
-        return GradeField::Bad;
+    let number = read.number;
+    let Field::Number(n) = number else {
+        return GradeAt {
+            grade: GradeField::Bad,
+            end,
+        };
     };
-    GradeField::Is(Grade::Number(n))
+    GradeAt {
+        grade: GradeField::Is(Grade::Number(n)),
+        end,
+    }
 }
 
 // The grade that is meant on a board of this depth. A depth above the greatest counts as the greatest.

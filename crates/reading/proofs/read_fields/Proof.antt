@@ -1,7 +1,10 @@
 -- `read_fields` answers as the reader of the letter's line does.
+use mathlib.Core.Path.{refl, _∙_}
 use borrow.Author.Needs.{needs}
 use Rattle.lines.specs.Bytes.{letter-A, letter-D, letter-Q, letter-W}
+use Rattle.reading.specs.Inner.Parts.{read-result}
 use Rattle.reading.proofs.Letters.{promises, closes}
+use Rattle.reading.proofs.Places.{both, one}
 use Rattle.reading.proofs.read_fields.Statement.{statement}
 use Rattle.reading.proofs.read_fields.Tie as tie
 
@@ -27,12 +30,15 @@ unfolding letter-W
 returns-3 c = cc
 
 returns-4 : tie.Need-returns-4
-unfolding letter-Q
-returns-4 c = rw (c .match .keys4) (promises _)
+unfolding letter-Q read-result
+returns-4 c = let s = c .before .before in rw (c .match .keys4) (both _ _ _ _ (one (s .args .line .now) (s .pre .0)) refl ∙ promises _)
 
 returns-5 : tie.Need-returns-5
-unfolding letter-A letter-D letter-Q letter-W
-returns-5 c = let r = c .match .rest in closes _ _ (r .0 .0 .0 .1) (r .0 .0 .1) (r .0 .1) (r .1)
+unfolding letter-A letter-D letter-Q letter-W read-result
+returns-5 c =
+    let s = c .before .before in
+    let r = c .match .rest in
+    both _ _ _ _ (one (s .args .line .now) (s .pre .0)) refl ∙ closes _ _ (r .0 .0 .0 .1) (r .0 .0 .1) (r .0 .1) (r .1)
 
 pub read-fields-spec : {M : Type 1} → statement M
 read-fields-spec =
