@@ -187,7 +187,7 @@ oven_admitted oven_admit(oven_board board, uint32_t ticket, oven_wait wait, uint
  * rising ticket; the entries after them keep what they had. Refuses with 2, 3 or 8; board and list are then as they were. `list`
  * points to `length` entries.
  */
-#define OVEN_STACK_CLOSE_INTO OVEN_STACK_BOARDS(9)
+#define OVEN_STACK_CLOSE_INTO OVEN_STACK_BOARDS(10)
 oven_closed oven_close_into(oven_board board, oven_entry *list, size_t length);
 
 /*
@@ -203,7 +203,7 @@ oven_closed oven_close(oven_board board, uint32_t *tickets, size_t tickets_lengt
  * of that wait and every rack on the board, if nothing else arrives; slots past the book's last count. Then it can be promised with a
  * longer wait too. 0 says that there is no such wait. Refuses with 2 or 3. The board stays as it is.
  */
-#define OVEN_STACK_PROMISE OVEN_STACK_BOARDS(3)
+#define OVEN_STACK_PROMISE OVEN_STACK_BOARDS(4)
 oven_promised oven_promise(oven_board board);
 
 /*

@@ -1,2 +1,3 @@
 pub mod Rooms
 pub mod InLimits
+pub mod Packed

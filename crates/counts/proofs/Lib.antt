@@ -1,2 +1,4 @@
 pub mod JobSeen
+pub mod KeySeen
 pub mod Filling
+pub mod Along

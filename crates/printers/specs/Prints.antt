@@ -9,13 +9,14 @@ use Rattle.lines.specs.Printers.{answers-printed, printer-after}
 use Rattle.printing.specs.Puts.{PutIf}
 use Rattle.answers.specs.declared.Answer.{Answer as AnswerHeld}
 use Rattle.answers.specs.declared.Answer.the-variants.{Refused, Opened, Admitted, Promised, Withdrawn, Closed}
-use Rattle.answers.specs.Printed.{answer-of, answer-room}
+use Rattle.answers.specs.Printed.{answer-of, answer-room, answer-fits}
 use Rattle.page.specs.declared.Page.{Page}
 use Rattle.page.specs.Pages.{handed-over}
 use Rattle.printers.specs.declared.Program.{Program as ProgramRun}
 use Rattle.printers.specs.declared.Program.the-variants.{Board, Sheet}
 use Rattle.printers.specs.declared.Printer.{Printer as PrinterHeld}
 use Rattle.printers.specs.declared.Printed.{Printed}
+use Rattle.printers.specs.declared.Numbered.{Numbered}
 use Rattle.printers.specs.Programs.{printer-of}
 
 -- the number behind a line's: behind the greatest of 64 bits comes 0
@@ -44,3 +45,9 @@ pub record PrintedIf (fits : Bool) (k : PrinterHeld) (a : AnswerHeld) (T G : Lis
   pub put : PutIf fits answer-room (answers-printed (printer-of k) (answer-of a T G ∷ [])) out at (r .at) out'
   pub printer : r .printer ≡ cond fits (held-after k a (length T)) k
   pub known : k .number + 1 < 2 ^ 64 → printer-of (r .printer) ≡ cond fits (printer-after (printer-of k) (answer-of a T G)) (printer-of k)
+
+-- an answer's lines printed for a printer of the board's program that knows this number, and the number that it knows after them
+abbrev pub LinesPrinted : (number : ℕ) → AnswerHeld → (T G : List ℕ) → (out : Bytes) → (at : ℕ) → Numbered → (out' : Bytes) → Type 0
+LinesPrinted n a T G out at r out' =
+    (k : PrinterHeld) → k .program ≡ Board → k .number ≡ n
+    → PrintedIf (answer-fits (length T) (length G) at (length out)) k a T G out at (record { printer = record { program = k .program; number = r .number; page = k .page }; at = r .at }) out'

@@ -7,8 +7,8 @@ ghost use Rattle.printing.specs.Puts.{PutIf};
 ghost use Rattle.answers.specs.Printed.{answer-fits};
 ghost use Rattle.page.specs.Pages.{page-of};
 ghost use Rattle.sheet.specs.Room.{page-length, page-fits};
-ghost use Rattle.printers.specs.declared.Program.the-variants.{Board, Sheet};
-ghost use Rattle.printers.specs.Prints.{next-number, PrintedIf};
+ghost use Rattle.printers.specs.declared.Program.the-variants.{Sheet};
+ghost use Rattle.printers.specs.Prints.{next-number, PrintedIf, LinesPrinted};
 use answers::Answer;
 use page::Figures;
 use page::Page;
@@ -32,6 +32,12 @@ pub struct Printed {
     pub at: usize,
 }
 
+// The number of the next line, and where an answer's lines end in the buffer.
+pub struct Numbered {
+    pub number: u64,
+    pub at: usize,
+}
+
 // The number of the line behind this one, if this one's answer was printed; else its own.
 fn number_after(number: u64, printed: bool) -> u64
     ensures { λ r. ⌜ r ≡ cond printed (next-number number) number ⌝ }
@@ -43,29 +49,25 @@ fn number_after(number: u64, printed: bool) -> u64
     }
 }
 
-// Prints an answer's lines.
-fn print_lines(
-    printer: Printer,
+// Prints an answer's lines, if any answer with so many tickets and grades fits there: that of the line with this number.
+pub fn print_lines(
+    number: u64,
     answer: Answer,
     tickets: &[u32],
     grades: &[u8],
     out: &mut [u8],
     at: usize,
-) -> Printed
-    requires { ⌜ printer .program ≡ Board ⌝ }
+) -> Numbered
     ensures { λ r.
         let T = now (tickets .entry) in
         let G = now (grades .entry) in
-        let fits = answer-fits (length T) (length G) at (length (now (out .entry))) in
-        ⌜ PrintedIf fits printer answer T G (now (out .entry)) at r (now (out .exit)) ⌝ }
+        ⌜ LinesPrinted number answer T G (now (out .entry)) at r (now (out .exit)) ⌝ }
 {
-    let number = printer.number;
     let fits = answers::answer_fits(tickets.len(), grades.len(), at, out.len());
     let end = answers::print_answer(number, answer, tickets, grades, out, at);
-    let mut next = printer;
-    next.number = number_after(number, fits);
-    Printed {
-        printer: next,
+    let next = number_after(number, fits);
+    Numbered {
+        number: next,
         at: end,
     }
 }
@@ -134,7 +136,15 @@ pub fn print_by(
 {
     let program = printer.program;
     match program {
-        Program::Board => print_lines(printer, answer, tickets, grades, out, at),
+        Program::Board => {
+            let p = print_lines(printer.number, answer, tickets, grades, out, at);
+            let mut next = printer;
+            next.number = p.number;
+            Printed {
+                printer: next,
+                at: p.at,
+            }
+        }
         Program::Sheet => print_on_page(printer, answer, tickets, grades, out, at),
     }
 }

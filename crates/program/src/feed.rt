@@ -8,9 +8,10 @@ ghost use Rattle.printing.specs.Puts.{PutWithin};
 ghost use Rattle.answers.specs.Printed.{answer-room, tally-room};
 ghost use Rattle.program.specs.Inner.Days.{session-of, GoodDay, Given};
 ghost use Rattle.program.specs.Inner.Machines.{NewState, machine-of, TakenIn, GoesOn, PutAt};
-use crate::session;
+use crate::answering;
+use crate::answering::DayAfter;
 use crate::session::Day;
-use crate::session::DayAfter;
+use crate::session::DayHead;
 use board::Board;
 use cutting::Partial;
 use printers::Printer;
@@ -56,7 +57,103 @@ pub(crate) fn new_state(program: Program) -> State
     }
 }
 
-// Takes in the chunk's bytes from `from` on, line by line, while the buffer has room for what a line may print.
+// Takes in the chunk's bytes from `from` on, up to the end of the line that they begin with or go on with, or to the chunk's end.
+fn feed_part(state: State, chunk: &[u8], from: usize, out: &mut [u8], at: usize) -> Fed
+    requires { ⌜ GoodDay (state .day) ⌝ }
+    requires { ⌜ (state .partial .len ≤ partial-room) × (from ≤ length (now chunk)) × (at + answer-room ≤ length (now out)) × (state .printer .number < 2 ^ 63) ⌝ }
+    ensures { λ r. ⌜ TakenIn state (now (chunk .entry)) from (now (out .entry)) at r (now (out .exit)) ⌝ }
+    ensures { λ r. ⌜ (from < length (now (chunk .entry)) → from < r .used) ⌝ }
+{
+    let day = state.day;
+    let printer = state.printer;
+    let cut = cutting::cut_line(state.partial, chunk, from);
+    let mut partial = cut.partial;
+    if !cut.ended {
+        let kept = State {
+            day,
+            printer,
+            partial,
+        };
+        return Fed {
+            state: kept,
+            used: cut.used,
+            at,
+        };
+    }
+    let bytes = partial.bytes;
+    let len = partial.len;
+    let after = answering::answer_line(day, printer, &bytes[..len], out, at);
+    partial.len = 0;
+    let next = after.day;
+    let known = after.printer;
+    let left = State {
+        day: next,
+        printer: known,
+        partial,
+    };
+    Fed {
+        state: left,
+        used: cut.used,
+        at: after.at,
+    }
+}
+
+// Takes in the lines that end in the chunk from `from` on, while the buffer has room for what a line may print; none where a line has begun.
+fn feed_whole(state: State, chunk: &[u8], from: usize, out: &mut [u8], at: usize) -> Fed
+    requires { ⌜ GoodDay (state .day) ⌝ }
+    requires { ⌜ (state .partial .len ≤ partial-room) × (from ≤ length (now chunk)) × (at ≤ length (now out)) ⌝ }
+    requires { ⌜ state .printer .number + length (now chunk) < from + 2 ^ 63 ⌝ }
+    ensures { λ r. ⌜ TakenIn state (now (chunk .entry)) from (now (out .entry)) at r (now (out .exit)) ⌝ }
+{
+    let partial = state.partial;
+    if partial.len != 0 {
+        return Fed {
+            state,
+            used: from,
+            at,
+        };
+    }
+    let mut keys = [0u32; Board::PLACES];
+    let mut tickets = [0u32; Board::PLACES];
+    let mut admitted = [0u32; Board::PLACES];
+    let day = state.day;
+    let board = day.board;
+    let head = packing::unpack(board, &mut keys, &mut tickets, &mut admitted);
+    let tally = day.tally;
+    let mut counts = tally.counts;
+    let begun = DayHead {
+        opened: day.opened,
+        head,
+    };
+    let printer = state.printer;
+    let f = answering::feed_lines(
+        begun,
+        printer,
+        &mut keys,
+        &mut tickets,
+        &mut admitted,
+        &mut counts,
+        chunk,
+        from,
+        out,
+        at,
+    );
+    let next = answering::packed_day(f.day, &keys, &tickets, &admitted, counts);
+    let known = f.printer;
+    let left = State {
+        day: next,
+        printer: known,
+        partial,
+    };
+    Fed {
+        state: left,
+        used: f.used,
+        at: f.at,
+    }
+}
+
+// Takes in the chunk's bytes from `from` on, while the buffer has room for what a line may print. The first line, or the rest of one that has begun, and the
+// last, if it does not end here, are taken in by themselves; those between them one after the other.
 pub(crate) fn feed(state: State, chunk: &[u8], from: usize, out: &mut [u8], at: usize) -> Fed
     requires { ⌜ GoodDay (state .day) ⌝ }
     requires { ⌜ (state .partial .len ≤ partial-room) × (from ≤ length (now chunk)) × (at ≤ length (now out)) ⌝ }
@@ -64,32 +161,19 @@ pub(crate) fn feed(state: State, chunk: &[u8], from: usize, out: &mut [u8], at: 
     ensures { λ r. ⌜ TakenIn state (now (chunk .entry)) from (now (out .entry)) at r (now (out .exit)) ⌝ }
     ensures { λ r. ⌜ GoesOn (now (chunk .entry)) from (now (out .entry)) at r ⌝ }
 {
-    let mut day = state.day;
-    let mut printer = state.printer;
-    let mut partial = state.partial;
+    let mut next = state;
     let mut used = from;
     let mut end = at;
     while used < chunk.len() && end + answers::ANSWER_ROOM <= out.len() {
-        let cut = cutting::cut_line(partial, chunk, used);
-        partial = cut.partial;
-        used = cut.used;
-        if cut.ended {
-            let bytes = partial.bytes;
-            let len = partial.len;
-            let after = session::answer_line(day, printer, &bytes[..len], out, end);
-            day = after.day;
-            printer = after.printer;
-            end = after.at;
-            partial.len = 0;
-        }
+        let part = feed_part(next, chunk, used, out, end);
+        let begun = part.state;
+        let all = feed_whole(begun, chunk, part.used, out, part.at);
+        next = all.state;
+        used = all.used;
+        end = all.at;
     }
-    let left = State {
-        day,
-        printer,
-        partial,
-    };
     Fed {
-        state: left,
+        state: next,
         used,
         at: end,
     }
@@ -111,7 +195,7 @@ fn last_line(state: State, out: &mut [u8], at: usize) -> DayAfter
         return DayAfter { day, printer, at };
     }
     let bytes = partial.bytes;
-    session::answer_line(day, printer, &bytes[..len], out, at)
+    answering::answer_line(day, printer, &bytes[..len], out, at)
 }
 
 // Prints the tally of an open board; where it ends.

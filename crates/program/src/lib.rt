@@ -3,6 +3,7 @@ ghost use Rattle.lines.specs.Printers.{board-program, sheet-program};
 ghost use Rattle.program.specs.Status.{Reported};
 use printers::Program;
 
+pub mod answering;
 pub mod feed;
 pub mod run;
 pub mod session;

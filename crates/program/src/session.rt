@@ -1,14 +1,14 @@
-// What a line does to the day, and how it is answered.
+// What a line does to the day. While lines are answered the day's jobs and counts lie in arrays, which are written in place.
 ghost use mathlib.Core.Path.{_≡_};
 ghost use mathlib.Core.Bool.{true};
-ghost use Prim.Native.Nat.{_+_, _≤_, _<_, _^_};
+ghost use mathlib.Core.List.{List};
+ghost use Prim.Native.Nat.{ℕ};
 ghost use lib.ListN.{length};
 ghost use Rattle.board.specs.Limits.{places-held};
 ghost use Rattle.lines.specs.Fields.{grade-meant};
-ghost use Rattle.lines.specs.Session.{step-refused, step-open, step-admit, step-close, step-promise, step-withdraw, step};
+ghost use Rattle.lines.specs.Session.{step-open, step-admit, step-close, step-promise, step-withdraw, step};
 ghost use Rattle.fields.specs.Grades.{grade-of};
-ghost use Rattle.answers.specs.Printed.{answer-room};
-ghost use Rattle.program.specs.Inner.Days.{session-of, GoodDay, Did, DidAlone, Answered};
+ghost use Rattle.program.specs.Inner.Days.{session-of, GoodDay, day-in, stepped-in, refused-day, Did, DidAlone};
 use answers::Answer;
 use answers::Closing;
 use board::Board;
@@ -16,7 +16,7 @@ use board::Laxity;
 use board::Tally;
 use fields::grades::Grade;
 use fields::grades::grade_meant;
-use printers::Printer;
+use packing::Head;
 use reading::Asked;
 
 // The board, if one is open, and the tally.
@@ -26,24 +26,22 @@ pub struct Day {
     pub tally: Tally,
 }
 
+// A day whose jobs and counts lie in arrays: what it holds beside them.
+pub struct DayHead {
+    pub opened: bool,
+    pub head: Head,
+}
+
 // The day after a line, what the line is answered, and how many jobs given up stand in the lists.
 pub struct Stepped {
-    pub day: Day,
+    pub day: DayHead,
     pub answer: Answer,
     pub listed: usize,
 }
 
-// The day after a line, what the printer knows then, and where the line's output ends in the buffer.
-pub struct DayAfter {
-    pub day: Day,
-    pub printer: Printer,
-    pub at: usize,
-}
-
 // A line that is refused: the day is as it was.
-fn refuse(day: Day, number: u8) -> Stepped
-    requires { ⌜ GoodDay day ⌝ }
-    ensures { λ r. ⌜ DidAlone day (step-refused (session-of day .board) number) r ⌝ }
+fn refuse(day: DayHead, number: u8) -> Stepped
+    ensures { λ r. ⌜ r ≡ refused-day day number ⌝ }
 {
     let answer = Answer::Refused(number);
     Stepped {
@@ -54,21 +52,27 @@ fn refuse(day: Day, number: u8) -> Stepped
 }
 
 // A line that opens.
-fn open_line(day: Day, depth: u32) -> Stepped
-    requires { ⌜ GoodDay day ⌝ }
-    ensures { λ r. ⌜ DidAlone day (step-open (session-of day .board) depth) r ⌝ }
+fn open_line(
+    day: DayHead,
+    depth: u32,
+    keys: &mut [u32; Board::PLACES],
+    tickets: &mut [u32; Board::PLACES],
+    admitted: &mut [u32; Board::PLACES],
+    counts: &mut [u32; Tally::COUNTS],
+) -> Stepped
+    requires { ⌜ GoodDay (day-in day (now keys) (now tickets) (now admitted) (now counts)) ⌝ }
+    ensures { λ r.
+        let d = day-in day (now (keys .entry)) (now (tickets .entry)) (now (admitted .entry)) (now (counts .entry)) in
+        let r' = stepped-in r (now (keys .exit)) (now (tickets .exit)) (now (admitted .exit)) (now (counts .exit)) in
+        ⌜ DidAlone d (step-open (session-of d .board) depth) r' ⌝ }
 {
     let o = Board::open(depth);
     if o.refusal != 0 {
         return refuse(day, o.refusal);
     }
     let board = o.board;
-    let tally = day.tally;
-    let next = Day {
-        opened: true,
-        board,
-        tally,
-    };
+    let head = packing::unpack(board, keys, tickets, admitted);
+    let next = DayHead { opened: true, head };
     let answer = Answer::Opened(depth);
     Stepped {
         day: next,
@@ -78,27 +82,35 @@ fn open_line(day: Day, depth: u32) -> Stepped
 }
 
 // A line that admits, with the grade that it means on the open board.
-fn admit_line(day: Day, ticket: u32, laxity: Laxity, grade: Grade) -> Stepped
-    requires { ⌜ GoodDay day ⌝ }
+fn admit_line(
+    day: DayHead,
+    ticket: u32,
+    laxity: Laxity,
+    grade: Grade,
+    keys: &mut [u32; Board::PLACES],
+    tickets: &mut [u32; Board::PLACES],
+    admitted: &mut [u32; Board::PLACES],
+    counts: &mut [u32; Tally::COUNTS],
+) -> Stepped
+    requires { ⌜ GoodDay (day-in day (now keys) (now tickets) (now admitted) (now counts)) ⌝ }
     requires { ⌜ day .opened ≡ true ⌝ }
     ensures { λ r.
-        let meant = grade-meant (day .board .depth) (grade-of grade) in
-        ⌜ DidAlone day (step-admit (day .board) ticket (laxity .0) meant) r ⌝ }
+        let d = day-in day (now (keys .entry)) (now (tickets .entry)) (now (admitted .entry)) (now (counts .entry)) in
+        let r' = stepped-in r (now (keys .exit)) (now (tickets .exit)) (now (admitted .exit)) (now (counts .exit)) in
+        ⌜ DidAlone d (step-admit (d .board) ticket (laxity .0) (grade-meant (d .board .depth) (grade-of grade))) r' ⌝ }
 {
-    let b = day.board;
-    let meant = grade_meant(b.depth, grade);
-    let a = admitting::admit_in_limits(b, ticket, laxity, meant);
-    if a.refusal != 0 {
-        return refuse(day, a.refusal);
-    }
-    let board = a.board;
-    let old = day.tally;
-    let tally = tally::count_admitted(old, meant);
-    let next = Day {
+    let head = day.head;
+    let meant = grade_meant(head.depth, grade);
+    let a = admitting::admit_packed(head, keys, tickets, admitted, ticket, laxity, meant);
+    let after = a.head;
+    let next = DayHead {
         opened: true,
-        board,
-        tally,
+        head: after,
     };
+    if a.refusal != 0 {
+        return refuse(next, a.refusal);
+    }
+    tally::count_admitted(counts, meant);
     let last = a.last;
     let answer = Answer::Admitted(ticket, last);
     Stepped {
@@ -109,28 +121,38 @@ fn admit_line(day: Day, ticket: u32, laxity: Laxity, grade: Grade) -> Stepped
 }
 
 // A line that closes. The jobs given up are the first in the lists.
-fn close_line(day: Day, tickets: &mut [u32], grades: &mut [u8], slots: &mut [u32]) -> Stepped
-    requires { ⌜ GoodDay day ⌝ }
+fn close_line(
+    day: DayHead,
+    keys: &mut [u32; Board::PLACES],
+    tickets: &mut [u32; Board::PLACES],
+    admitted: &mut [u32; Board::PLACES],
+    counts: &mut [u32; Tally::COUNTS],
+    expired: &mut [u32],
+    grades: &mut [u8],
+    slots: &mut [u32],
+) -> Stepped
+    requires { ⌜ GoodDay (day-in day (now keys) (now tickets) (now admitted) (now counts)) ⌝ }
     requires { ⌜ day .opened ≡ true ⌝ }
-    requires { ⌜ (length (now tickets) ≡ places-held) × (length (now grades) ≡ places-held) × (length (now slots) ≡ places-held) ⌝ }
-    ensures { λ r. ⌜ Did day (step-close (day .board)) r (now (tickets .exit)) (now (grades .exit)) ⌝ }
+    requires { ⌜ (length (now expired) ≡ places-held) × (length (now grades) ≡ places-held) × (length (now slots) ≡ places-held) ⌝ }
+    ensures { λ r.
+        let d = day-in day (now (keys .entry)) (now (tickets .entry)) (now (admitted .entry)) (now (counts .entry)) in
+        let r' = stepped-in r (now (keys .exit)) (now (tickets .exit)) (now (admitted .exit)) (now (counts .exit)) in
+        ⌜ Did d (step-close (d .board)) r' (now (expired .exit)) (now (grades .exit)) ⌝ }
 {
-    let b = day.board;
-    let c = closing::close_in_limits(b, tickets, grades, slots);
+    let head = day.head;
+    let c = closing::close_packed(head, keys, tickets, admitted, expired, grades, slots);
+    let after = c.head;
+    let next = DayHead {
+        opened: true,
+        head: after,
+    };
     if c.refusal != 0 {
-        return refuse(day, c.refusal);
+        return refuse(next, c.refusal);
     }
     let n = c.listed as usize;
-    let old = day.tally;
-    let baked = tally::count_baked(old, c.ticket, c.grade);
-    let tally = tally::count_given_up(baked, &grades[..n]);
-    let board = c.board;
-    let next = Day {
-        opened: true,
-        board,
-        tally,
-    };
-    let slot = b.slot;
+    tally::count_baked(counts, c.ticket, c.grade);
+    tally::count_given_up(counts, &grades[..n]);
+    let slot = head.slot;
     let closing = Closing {
         slot,
         ticket: c.ticket,
@@ -146,12 +168,14 @@ fn close_line(day: Day, tickets: &mut [u32], grades: &mut [u8], slots: &mut [u32
 }
 
 // A line that asks what can be promised: the day is as it was.
-fn promise_line(day: Day) -> Stepped
-    requires { ⌜ GoodDay day ⌝ }
+fn promise_line(day: DayHead, keys: &[u32; Board::PLACES]) -> Stepped
     requires { ⌜ day .opened ≡ true ⌝ }
-    ensures { λ r. ⌜ DidAlone day (step-promise (day .board)) r ⌝ }
+    ensures { λ r.
+        ⌜ ((T A C : List ℕ) → let d = day-in day (now (keys .entry)) T A C in
+        GoodDay d → DidAlone d (step-promise (d .board)) (stepped-in r (now (keys .entry)) T A C)) ⌝ }
 {
-    let p = promising::promise_seen(day.board);
+    let head = day.head;
+    let p = promising::promise_packed(head, keys);
     if p.refusal != 0 {
         return refuse(day, p.refusal);
     }
@@ -164,23 +188,34 @@ fn promise_line(day: Day) -> Stepped
     }
 }
 
-// A line that withdraws.
-fn withdraw_line(day: Day, ticket: u32) -> Stepped
-    requires { ⌜ GoodDay day ⌝ }
+// A line that withdraws. It is rare, so the board is handed over as a whole.
+fn withdraw_line(
+    day: DayHead,
+    ticket: u32,
+    keys: &mut [u32; Board::PLACES],
+    tickets: &mut [u32; Board::PLACES],
+    admitted: &mut [u32; Board::PLACES],
+    counts: &mut [u32; Tally::COUNTS],
+) -> Stepped
+    requires { ⌜ GoodDay (day-in day (now keys) (now tickets) (now admitted) (now counts)) ⌝ }
     requires { ⌜ day .opened ≡ true ⌝ }
-    ensures { λ r. ⌜ DidAlone day (step-withdraw (day .board) ticket) r ⌝ }
+    ensures { λ r.
+        let d = day-in day (now (keys .entry)) (now (tickets .entry)) (now (admitted .entry)) (now (counts .entry)) in
+        let r' = stepped-in r (now (keys .exit)) (now (tickets .exit)) (now (admitted .exit)) (now (counts .exit)) in
+        ⌜ DidAlone d (step-withdraw (d .board) ticket) r' ⌝ }
 {
-    let w = withdrawing::withdraw_by_rows(day.board, ticket);
+    let head = day.head;
+    let b = packing::pack(head, keys, tickets, admitted);
+    let w = withdrawing::withdraw_by_rows(b, ticket);
     if w.refusal != 0 {
         return refuse(day, w.refusal);
     }
+    tally::count_withdrawn(counts, w.grade);
     let board = w.board;
-    let old = day.tally;
-    let tally = tally::count_withdrawn(old, w.grade);
-    let next = Day {
+    let after = packing::unpack(board, keys, tickets, admitted);
+    let next = DayHead {
         opened: true,
-        board,
-        tally,
+        head: after,
     };
     let answer = Answer::Withdrawn(ticket);
     Stepped {
@@ -191,52 +226,40 @@ fn withdraw_line(day: Day, ticket: u32) -> Stepped
 }
 
 // What a line does, the line end not among its bytes.
-fn step_line(
-    day: Day,
+pub(crate) fn step_line(
+    day: DayHead,
     line: &[u8],
-    tickets: &mut [u32],
+    keys: &mut [u32; Board::PLACES],
+    tickets: &mut [u32; Board::PLACES],
+    admitted: &mut [u32; Board::PLACES],
+    counts: &mut [u32; Tally::COUNTS],
+    expired: &mut [u32],
     grades: &mut [u8],
     slots: &mut [u32],
 ) -> Stepped
-    requires { ⌜ GoodDay day ⌝ }
-    requires { ⌜ (length (now tickets) ≡ places-held) × (length (now grades) ≡ places-held) × (length (now slots) ≡ places-held) ⌝ }
-    ensures { λ r. ⌜ Did day (step (session-of day .board) (now (line .entry))) r (now (tickets .exit)) (now (grades .exit)) ⌝ }
+    requires { ⌜ GoodDay (day-in day (now keys) (now tickets) (now admitted) (now counts)) ⌝ }
+    requires { ⌜ (length (now expired) ≡ places-held) × (length (now grades) ≡ places-held) × (length (now slots) ≡ places-held) ⌝ }
+    ensures { λ r.
+        let d = day-in day (now (keys .entry)) (now (tickets .entry)) (now (admitted .entry)) (now (counts .entry)) in
+        let r' = stepped-in r (now (keys .exit)) (now (tickets .exit)) (now (admitted .exit)) (now (counts .exit)) in
+        ⌜ Did d (step (session-of d .board) (now (line .entry))) r' (now (expired .exit)) (now (grades .exit)) ⌝ }
 {
     let asked = reading::read_line(line, day.opened);
     match asked {
-        Asked::Open(depth) => open_line(day, depth),
-        Asked::Admit(ticket, laxity, grade) => admit_line(day, ticket, laxity, grade),
-        Asked::Close => close_line(day, tickets, grades, slots),
-        Asked::Promise => promise_line(day),
-        Asked::Withdraw(ticket) => withdraw_line(day, ticket),
+        Asked::Open(depth) => open_line(day, depth, keys, tickets, admitted, counts),
+        Asked::Admit(ticket, laxity, grade) => admit_line(
+            day,
+            ticket,
+            laxity,
+            grade,
+            keys,
+            tickets,
+            admitted,
+            counts,
+        ),
+        Asked::Close => close_line(day, keys, tickets, admitted, counts, expired, grades, slots),
+        Asked::Promise => promise_line(day, keys),
+        Asked::Withdraw(ticket) => withdraw_line(day, ticket, keys, tickets, admitted, counts),
         Asked::Refused(n) => refuse(day, n),
-    }
-}
-
-// Answers a line, the line end not among its bytes.
-pub(crate) fn answer_line(
-    day: Day,
-    printer: Printer,
-    line: &[u8],
-    out: &mut [u8],
-    at: usize,
-) -> DayAfter
-    requires { ⌜ GoodDay day ⌝ }
-    requires { ⌜ (at + answer-room ≤ length (now out)) × (printer .number < 2 ^ 63) ⌝ }
-    ensures { λ r. ⌜ Answered day printer (now (line .entry)) (now (out .entry)) at r (now (out .exit)) ⌝ }
-{
-    let mut tickets = [0u32; Board::PLACES];
-    let mut grades = [0u8; Board::PLACES];
-    let mut slots = [0u32; Board::PLACES];
-    let s = step_line(day, line, &mut tickets, &mut grades, &mut slots);
-    let n = s.listed;
-    let answer = s.answer;
-    let p = printers::print_by(printer, answer, &tickets[..n], &grades[..n], out, at);
-    let next = s.day;
-    let known = p.printer;
-    DayAfter {
-        day: next,
-        printer: known,
-        at: p.at,
     }
 }

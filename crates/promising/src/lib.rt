@@ -1,10 +1,11 @@
 // What can still be promised: 02's rows 2 and 3 in order, then the least laxity that one job more can have.
 ghost use mathlib.Core.Path.{_≡_};
 ghost use Rattle.board.specs.Promise.{promised-refused, promised};
-ghost use Rattle.promising.specs.Inner.Seen.{promised-seen};
+ghost use Rattle.promising.specs.Inner.Seen.{PromisedOf};
 use board::Board;
 use board::Laxity;
 use board::Promised;
+use packing::Head;
 
 // The answer of a refused call.
 fn refused(number: u8) -> Promised
@@ -16,14 +17,14 @@ fn refused(number: u8) -> Promised
     }
 }
 
-// What can be promised beside the jobs that are seen of a board, sound or not. On a sound board these are all.
-pub fn promise_seen(b: Board) -> Promised
-    ensures { λ r. ⌜ r ≡ promised-seen b ⌝ }
+// What can be promised beside the jobs that are seen of the board that arrays hold, sound or not. On a sound board these are all.
+pub fn promise_packed(head: Head, keys: &[u32; Board::PLACES]) -> Promised
+    ensures { λ r. ⌜ PromisedOf head (now (keys .entry)) r ⌝ }
 {
-    if b.slot.0 == Board::LAST_SLOT + 1 {
+    if head.slot.0 == Board::LAST_SLOT + 1 {
         return refused(3);
     }
-    let laxity = search::promise(b);
+    let laxity = search::promise(head, keys);
     Promised { refusal: 0, laxity }
 }
 
@@ -32,7 +33,11 @@ pub fn promise(b: Board) -> Promised
     ensures { λ r. ⌜ r ≡ promised b ⌝ }
 {
     if soundness::is_sound(b) {
-        promise_seen(b)
+        let mut keys = [0u32; Board::PLACES];
+        let mut tickets = [0u32; Board::PLACES];
+        let mut admitted = [0u32; Board::PLACES];
+        let head = packing::unpack(b, &mut keys, &mut tickets, &mut admitted);
+        promise_packed(head, &keys)
     } else {
         refused(2)
     }

@@ -1,8 +1,8 @@
 -- The best laxity from counts: c k jobs have the laxity k + 1, laxity by laxity from the least.
-use mathlib.Core.Path.{_≡_, refl, sym, ap, _∙_}
+use mathlib.Core.Path.{_≡_, refl, sym, ap, _∙_, subst}
 use mathlib.Core.Bool.{Bool, true, false, _||_, cond}
-use mathlib.Core.Logic.{⊎-elim}
-use Prim.Native.Nat.{ℕ, _+_, _≤_, _<_}
+use mathlib.Core.Logic.{_⊎_, inl, inr, ⊎-elim}
+use Prim.Native.Nat.{ℕ, zero, suc, _+_, _≤_, _<_}
 use native.Mathlib.Omega.{arith}
 use lib.Dec.{ltb, eqb}
 use lib.IntN.{ℤ, pos, _-ℤ_}
@@ -33,6 +33,16 @@ module _ (best : Best) (before here k : ℕ) where
     pub with-old : (eqb before 0 || ltZ x (best .excess)) ≡ false → best ≡ best-with best before here k
     unfolding best-with
     with-old t = rw (ne-eqb here 0 some, ← e, t) refl
+
+-- it is the laxity k + 1, or what it was
+pub with-either : (best : Best) (before here k : ℕ) → (best-with best before here k ≡ best) ⊎ (best-with best before here k .laxity .0 ≡ k + 1)
+unfolding best-with
+with-either best before here k = go (eqb here 0) (eqb before 0 || ltZ (pos (k + 1) -ℤ pos (before + here)) (best .excess))
+  where
+    go : (s t : Bool) → (cond s best (cond t (best-at k (before + here)) best) ≡ best) ⊎ (cond s best (cond t (best-at k (before + here)) best) .laxity .0 ≡ k + 1)
+    go true t = inl refl
+    go false true = inr refl
+    go false false = inl refl
 
 module _ (c : ℕ → ℕ) where
   -- the excess of k + 1 is at most that of j + 1; is smaller
@@ -106,3 +116,10 @@ module _ (c : ℕ → ℕ) where
   pub best-small : {n : ℕ} {best : Best} → BestTo n best → best .laxity .0 ≤ n
   best-small (none-yet s b) = rw b (omega arith)
   best-small (best-yet k h p b o f) = rw b (omega arith)
+
+  -- the best of all laxities is the best so far, or a greater one
+  pub best-on : (m n N : ℕ) {best : Best} → BestTo n best → N ≡ n + m → (last : Best) × BestTo N last × (best .laxity .0 ≤ last .laxity .0)
+  best-on zero n N {best} B e = (best, subst (λ k. BestTo k best) (omega arith) B, omega arith)
+  best-on (suc m) n N {best} B e =
+      let (last, L, h) = best-on m (n + 1) N (best-more n B) (omega arith) in
+      (last, L, ⊎-elim (λ (w : best-with best (sum c n) (c n) n ≡ best). omega (arith, h, ap (λ (x : Best). x .laxity .0) w)) (λ w. omega (arith, h, w, best-small B)) (with-either best (sum c n) (c n) n))

@@ -2,7 +2,7 @@
 use mathlib.Core.Path.{_≡_, sym, ap, ap₂, _∙_}
 use mathlib.Core.Bool.{Bool, true, false}
 use mathlib.Core.List.{List, [], _∷_, _++_}
-use Prim.Native.Nat.{ℕ, _+_, _-_, _*_, _^_, _≤_}
+use Prim.Native.Nat.{ℕ, _+_, _-_, _*_, _^_, _≤_, _<_}
 use native.Mathlib.Omega.{arith}
 use lib.Dec.{leb, ltb}
 use borrow.Author.Tests.{not-true, not-false}
@@ -16,10 +16,10 @@ use Rattle.board.specs.Limits.{longest-laxity}
 use Rattle.search.specs.declared.tight.Best.{Best}
 use Rattle.search.specs.Inner.Counts.{CountsOf, sum, column}
 use Rattle.search.specs.Inner.Start.{Start, first-bits}
-use Rattle.search.specs.Inner.Answers.{TightOf, ZeroNext, NextStart, DescentOf}
+use Rattle.search.specs.Inner.Answers.{TightOf, LeastOf, ZeroNext, NextStart, DescentOf}
 use Rattle.search.proofs.Sums.{column-counts}
 use Rattle.search.proofs.BestLaxity.{BestTo}
-use Rattle.search.proofs.TightFound.{within, tight-found}
+use Rattle.search.proofs.TightFound.{within, tight-found, least-found, least-none}
 use Rattle.search.proofs.Start.{next-zero, next-one, zero-fits}
 use Rattle.search.proofs.NextBit.{zero-next, one-fewer, none-left}
 
@@ -37,6 +37,20 @@ module _ (t : List ℕ) (start left : ℕ) where
       let u = first-bits d start left in
       within now (starting d u A) (λ r m. C .in-date r (starting-mem d u A m .0)) (λ r m. C .short r (starting-mem d u A m .0)) (column t start left)
       (column-counts now d A t C start left fits) l h
+
+-- the first column of a grade that is not 0 is that of the least laxity
+module _ (t : List ℕ) (grade : ℕ) where
+  pub least-of : (k : ℕ) → k < longest-laxity → 1 ≤ column t grade 0 k → sum (column t grade 0) k ≡ 0 → LeastOf t grade (k + 1)
+  least-of k h p z now d A fits C =
+      let u = first-bits d grade 0 in
+      least-found now (starting d u A) (λ r m. C .in-date r (starting-mem d u A m .0)) (λ r m. C .short r (starting-mem d u A m .0)) (column t grade 0)
+      (column-counts now d A t C grade 0 fits) k h p z
+
+  pub none-of : sum (column t grade 0) longest-laxity ≡ 0 → LeastOf t grade 0
+  none-of z now d A fits C =
+      let u = first-bits d grade 0 in
+      least-none now (starting d u A) (λ r m. C .in-date r (starting-mem d u A m .0)) (λ r m. C .short r (starting-mem d u A m .0)) (column t grade 0)
+      (column-counts now d A t C grade 0 fits) z
 
 module _ (t : List ℕ) (start left : ℕ) (some : 1 ≤ left) where
   pub zero-of : (best : Best) → TightOf t start left best → best .laxity .0 ≤ longest-laxity → (r : Bool)

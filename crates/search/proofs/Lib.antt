@@ -7,7 +7,11 @@ pub mod BestLaxity
 pub mod TightFound
 pub mod NextBit
 pub mod FromCounts
-pub mod Earlier
+pub mod ZeroFound
+pub mod Lowest
+pub mod SoonestFound
+pub mod Placed
 pub mod SmallestFound
+pub mod BakeFound
 pub mod PromiseFound
 pub mod OnSound

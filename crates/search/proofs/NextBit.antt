@@ -16,7 +16,6 @@ use Rattle.rule.specs.Job.{Job, laxity}
 use Rattle.rule.specs.Grade.{bits, graded, starting}
 use Rattle.rule.specs.Tight.{tight-laxity, tight}
 use Rattle.rule.specs.Descent.{next-bit, descend, no-regret-after, no-regret}
-use Rattle.rule.specs.Bake.{soonest, baked}
 use Rattle.rule.proofs.Bits.Starts.{starts-append}
 
 -- where g passes whatever f passes: to count what passes f and t is to look among what passes g and t for what passes f
@@ -64,11 +63,10 @@ unfolding descend
 none-left now d A left u e = rw e refl
 
 -- the whole descent ends at the no-regret set
-pub bakes-found : (now d : ℕ) (A : List Job) (g l : ℕ) → bits d g ≡ descend now d A d (bits (d - d) 0) → l ≡ tight-laxity now (starting d (bits (d - 0) g) A)
-    → soonest (select (λ r. leb (laxity now r) l) (starting d (bits (d - 0) g) A)) ≡ baked now d A
-unfolding baked no-regret no-regret-after tight bits
-bakes-found now d A g l e f =
+pub no-regret-found : (now d : ℕ) (A : List Job) (g : ℕ) → bits d g ≡ descend now d A d (bits (d - d) 0) → no-regret now d A ≡ tight now (starting d (bits (d - 0) g) A)
+unfolding no-regret no-regret-after bits
+no-regret-found now d A g e =
     let n : d - d ≡ 0 = omega arith in
     let w : d - 0 ≡ d = omega arith in
     let u : bits (d - 0) g ≡ descend now d A d [] = ap (λ k. bits k g) w ∙ e ∙ ap (λ k. descend now d A d (bits k 0)) n in
-    rw (f, u)
+    rw u refl

@@ -1,11 +1,9 @@
 -- Of a sound board every job is seen, so the search bakes what the slot bakes.
 use mathlib.Core.Path.{_≡_, ap}
 use mathlib.Core.Bool.{true}
-use mathlib.Core.List.{Memᴰ·map}
 use native.Mathlib.Omega.{arith}
 use Rattle.lists.proofs.Members.{select-all}
-use Rattle.lists.proofs.Rising.{rise-above}
-use Rattle.rule.specs.Job.{Job, laxity}
+use Rattle.rule.specs.Job.{laxity}
 use Rattle.rule.specs.Bake.{baked}
 use Rattle.board.specs.declared.Board.{Board}
 use Rattle.board.specs.Held.{slot-of, held}
@@ -26,7 +24,7 @@ sees-all b s =
     facts-seen _ _ r
     (record {
       shallow = f .shallow;
-      ticketed = rise-above 0 (f .tickets-rise) (Memᴰ·map (λ (q : Job). q .ticket) m);
+      begun = f .to-last;
       in-date = j .in-date;
       short = omega arith;
       graded = j .graded;

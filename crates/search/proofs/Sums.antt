@@ -4,8 +4,8 @@ use mathlib.Core.Bool.{Bool, true, false, _&&_}
 use mathlib.Core.Logic.{_⊎_, inl, inr, ⊎-elim}
 use mathlib.Core.List.{List, List·Memᴰ}
 use Prim.Native.Nat.{ℕ, zero, suc, _+_, _-_, _*_, _/_, _%_, _^_, _≤_, _<_}
-use native.Mathlib.Nat.{mod-lt, div-add-mod'}
-use native.Mathlib.Numerals.{add-one}
+use native.Mathlib.Nat.{mod-lt, div-add-mod', pow-succ'}
+use native.Mathlib.Numerals.{add-one, sub-one}
 use native.Mathlib.Omega.{arith}
 use lib.Arith.{digits-div}
 use lib.Dec.{leb, ltb, eqb}
@@ -39,6 +39,33 @@ pub sum-part : (f : ℕ → ℕ) (n k : ℕ) → k < n → f k ≤ sum f n
 unfolding sum
 sum-part f zero k h = absurd (omega arith)
 sum-part f (suc n) k h = ⊎-elim (λ (e : n ≤ k). let s : k ≡ n = omega arith in rw s (omega arith)) (λ (l : k < n). omega (arith, sum-part f n k l)) (cmp n k)
+
+pub sum-mono : (f : ℕ → ℕ) (m n : ℕ) → m ≤ n → sum f m ≤ sum f n
+unfolding sum
+sum-mono f m zero h = let e : m ≡ 0 = omega arith in rw e (omega arith)
+sum-mono f m (suc n) h = ⊎-elim (λ (l : m ≤ n). omega (arith, sum-mono f m n l)) (λ (l : n < m). let e : m ≡ suc n = omega arith in rw e (omega arith)) (cmp m n)
+
+sum-append : (f : ℕ → ℕ) (m n : ℕ) → sum f (m + n) ≡ sum f m + sum (λ i. f (m + i)) n
+unfolding sum
+sum-append f m zero = let e : m + 0 ≡ m = omega arith in omega (arith, ap (sum f) e)
+sum-append f m (suc n) = let e : m + suc n ≡ suc (m + n) = omega arith in omega (arith, ap (sum f) e, sum-append f m n)
+
+-- a column is that of the start with 0 behind it and that with 1
+pub column-halves : (t : List ℕ) (start left k : ℕ) → 1 ≤ left → column t start left k ≡ column t (start * 2) (left - 1) k + column t (start * 2 + 1) (left - 1) k
+unfolding column cell
+column-halves t start left k some =
+    let w = 2 ^ (left - 1) in
+    let e : 2 ^ left ≡ w + w = twice left some in
+    let f : ℕ → ℕ = λ i. getD t (cell k (start * 2 ^ left) + i) 0 in
+    let p : start * 2 ^ left ≡ start * w + start * w = ap (λ n. start * n) e ∙ omega arith in
+    ap (sum f) e
+    ∙ sum-append f w w
+    ∙ ap₂ _+_ (sum-cong f (λ i. getD t (cell k (start * 2 * w) + i) 0) w (λ i h. ap (λ j. getD t j 0) (omega (arith, p))))
+    (sum-cong (λ i. f (w + i)) (λ i. getD t (cell k ((start * 2 + 1) * w) + i) 0) w (λ i h. ap (λ j. getD t j 0) (omega (arith, p))))
+  where
+    twice : (n : ℕ) → 1 ≤ n → 2 ^ n ≡ 2 ^ (n - 1) + 2 ^ (n - 1)
+    twice zero h = absurd (omega arith)
+    twice (suc n) h = rw (sub-one, pow-succ' 2 n) (omega arith)
 
 -- x is one of the n numbers from lo on
 abbrev in-range : (lo n x : ℕ) → Bool

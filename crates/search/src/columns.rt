@@ -1,11 +1,9 @@
-// Sums of counts: the jobs of one laxity whose grade starts in some way, and whether there are any within a laxity.
+// Sums of counts: the jobs of one laxity whose grade starts in some way.
 ghost use mathlib.Core.Path.{_≡_};
 ghost use Prim.Native.Nat.{_+_, _^_, _≤_, _<_};
-ghost use lib.Dec.{ltb};
 ghost use Rattle.board.specs.Limits.{deepest, longest-laxity};
-ghost use Rattle.search.specs.Inner.Counts.{sum, column};
+ghost use Rattle.search.specs.Inner.Counts.{column};
 ghost use Rattle.search.specs.Inner.Start.{Start};
-use board::Laxity;
 use board::Tally;
 use counts::CELLS;
 
@@ -39,20 +37,4 @@ pub(crate) fn column_of(counts: &[u16; CELLS], start: u8, left: u8, k: usize) ->
         j += 1;
     }
     total
-}
-
-// Whether a job whose grade starts so has laxity `l` or less.
-pub(crate) fn any_within(counts: &[u16; CELLS], start: u8, left: u8, l: Laxity) -> bool
-    requires { ⌜ (l .0 ≤ longest-laxity) × Start deepest start left ⌝ }
-    ensures { λ r. ⌜ r ≡ ltb 0 (sum (column (now (counts .entry)) start left) (l .0)) ⌝ }
-{
-    let most = l.0 as usize;
-    let mut k: usize = 0;
-    while k < most {
-        if column_of(counts, start, left, k) != 0 {
-            return true;
-        }
-        k += 1;
-    }
-    false
 }

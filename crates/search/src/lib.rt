@@ -1,18 +1,14 @@
-// The search for the job that a slot bakes: one walk along the board counts its jobs by laxity and grade; from these counts alone comes the smallest
-// excess of all jobs, which is the shortfall, the grade, down its bits, and the tight laxity of that grade's jobs; then the soonest job of this no-regret
-// set. It takes any board, and goes by the jobs that it sees there; on a sound board these are all.
+// The search for the job that a slot bakes: one walk along the keys counts the board's jobs by laxity and grade; from these counts alone comes the smallest
+// excess of all jobs, which is the shortfall, the grade, down its bits, and the least laxity of that grade's jobs; then the lowest ticket of those with it.
+// It takes any board, and goes by the jobs that it sees there; on a sound board these are all.
 // A start of a grade is the number of its first bits, `start`, with `left` bits left: the grades that start so are the 2 ^ left from start * 2 ^ left
 // on. All of them are below (start + 1) * 2 ^ left, which is at most 2 ^ depth.
-ghost use mathlib.Core.Path.{_≡_};
-ghost use Rattle.rule.specs.Promise.{least-promised};
-ghost use Rattle.board.specs.Limits.{longest-laxity};
-ghost use Rattle.board.specs.Held.{slot-of};
-ghost use Rattle.counts.specs.Seen.{seen};
-ghost use Rattle.search.specs.Inner.Found.{BakedSeen};
+ghost use Rattle.search.specs.Inner.Found.{BakedPacked, PromisedPacked};
 use board::Board;
 use board::Laxity;
 use board::Slot;
 use counts::CELLS;
+use packing::Head;
 
 mod columns;
 mod descent;
@@ -31,13 +27,14 @@ pub struct Baked {
     pub counts: [u16; CELLS],
 }
 
-// The job that the slot bakes: the soonest of the tight set of the grade that the search ends at, the no-regret set. The shortfall is by the smallest excess
-// of all jobs, which is that of the search with no bits.
-pub fn bake(b: Board) -> Baked
-    ensures { λ r. ⌜ BakedSeen b r ⌝ }
+// The job that the slot bakes: of the grade that the search ends at, the soonest job. It is in the no-regret set, since the tight laxity of the grade's
+// jobs is one that some of them has, and no laxity is less than that of the soonest. The shortfall is by the smallest excess of all jobs.
+pub fn bake(head: Head, keys: &[u32; Board::PLACES], tickets: &[u32; Board::PLACES]) -> Baked
+    ensures { λ r. ⌜ BakedPacked head (now (keys .entry)) (now (tickets .entry)) r ⌝ }
 {
-    let counts = counts::counts_of(b);
-    if Board::DEEPEST < (b.depth as u32) {
+    let counts = counts::counts_of(head, keys);
+    let all = tight::tight(&counts);
+    if all.laxity.0 == 0 {
         return Baked {
             ticket: 0,
             grade: 0,
@@ -46,14 +43,13 @@ pub fn bake(b: Board) -> Baked
             counts,
         };
     }
-    let all = tight::tight(&counts, 0, b.depth);
-    let grade = descent::grade_of(&counts, b.depth, all);
-    let own = descent::tight_of_grade(&counts, b.depth, all, grade);
-    let p = soonest::soonest(b, grade, own.laxity);
-    let last = p.last;
+    let grade = descent::descend(&counts, 0, head.depth);
+    let laxity = soonest::least_laxity(&counts, grade);
+    let last = Slot(head.slot.0 + laxity.0 - 1);
+    let ticket = soonest::lowest_ticket(head.count, keys, tickets, packing::key(last, grade));
     Baked {
-        ticket: p.ticket,
-        grade: p.grade,
+        ticket,
+        grade,
         last,
         shortfall: shortfall::shortfall_of(all),
         counts,
@@ -61,9 +57,9 @@ pub fn bake(b: Board) -> Baked
 }
 
 // What can still be promised: the least laxity that one job more can have and be baked with all jobs seen, 0 for none.
-pub fn promise(b: Board) -> Laxity
-    ensures { λ r. ⌜ r .0 ≡ least-promised longest-laxity (slot-of b) (seen b) ⌝ }
+pub fn promise(head: Head, keys: &[u32; Board::PLACES]) -> Laxity
+    ensures { λ r. ⌜ PromisedPacked head (now (keys .entry)) (r .0) ⌝ }
 {
-    let counts = counts::counts_of(b);
+    let counts = counts::counts_of(head, keys);
     room::after_full(&counts)
 }

@@ -6,9 +6,9 @@ ghost use lib.Dec.{eqb};
 ghost use lib.IntN.{pos, _-ℤ_};
 ghost use lib.Signed.{ltZ};
 ghost use Rattle.board.specs.Limits.{deepest, longest-laxity};
-ghost use Rattle.search.specs.Inner.Start.{Start};
-ghost use Rattle.search.specs.Inner.Answers.{Tightest, best-with};
+ghost use Rattle.search.specs.Inner.Answers.{TightOf, best-with};
 use crate::columns;
+use board::Board;
 use board::Laxity;
 use counts::CELLS;
 use counts::LAXITIES;
@@ -46,7 +46,7 @@ fn is_better(x: i32, before: u32, best: Best) -> bool
 }
 
 // The best once the laxity k + 1 is looked at, which `here` jobs have; `before` jobs have a lesser one.
-fn better(best: Best, before: u32, here: u32, k: usize) -> Best
+pub(crate) fn better(best: Best, before: u32, here: u32, k: usize) -> Best
     requires { ⌜ (k < longest-laxity) × (before + here < 2 ^ 31) ⌝ }
     ensures { λ r. ⌜ r ≡ best-with best before here k ⌝ }
 {
@@ -64,10 +64,9 @@ fn better(best: Best, before: u32, here: u32, k: usize) -> Best
     best
 }
 
-// The tight laxity of the jobs whose grade starts so, and its excess: one column of counts after the other.
-pub(crate) fn tight(counts: &[u16; CELLS], start: u8, left: u8) -> Best
-    requires { ⌜ Start deepest start left ⌝ }
-    ensures { λ r. ⌜ Tightest (now (counts .entry)) start left r ⌝ }
+// The tight laxity of all jobs, and its excess: one column of counts after the other, each as wide as the greatest depth has grades.
+pub(crate) fn tight(counts: &[u16; CELLS]) -> Best
+    ensures { λ r. ⌜ TightOf (now (counts .entry)) 0 deepest r ⌝ }
 {
     let mut best = Best {
         excess: 0,
@@ -76,7 +75,7 @@ pub(crate) fn tight(counts: &[u16; CELLS], start: u8, left: u8) -> Best
     let mut within: u32 = 0;
     let mut k: usize = 0;
     while k < LAXITIES {
-        let here = columns::column_of(counts, start, left, k);
+        let here = columns::column_of(counts, 0, Board::DEEPEST as u8, k);
         best = better(best, within, here, k);
         within += here;
         k += 1;

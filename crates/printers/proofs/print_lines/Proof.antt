@@ -22,15 +22,14 @@ same-length : tie.Need-same-length
 same-length c = search needs
 
 returns : tie.Need-returns
-returns c =
+returns c k e h =
     let p = c .before .before .before in
     let f = p .before .before in
-    let s = f .before .before .before .before in
-    let a = s .args in
+    let a = f .before .before .before .before .args in
     let fits = answer-fits (length (a .tickets .now)) (length (a .grades .now)) (a .at) (length (a .out .now)) in
-    printed-lines (a .printer) (a .answer) (a .tickets .now) (a .grades .now) (s .pre) fits (c .number-after .result)
-    (c .number-after .ensures ∙ ap (λ (b : Bool). cond b (next-number (a .printer .number)) (a .printer .number)) (f .answer-fits .ensures))
-    (p .print-answer .ensures)
+    printed-lines k (a .answer) (a .tickets .now) (a .grades .now) e fits (c .number-after .result)
+    (rw h (c .number-after .ensures ∙ ap (λ (b : Bool). cond b (next-number (a .number)) (a .number)) (f .answer-fits .ensures)))
+    (rw h (p .print-answer .ensures))
 
 pub print-lines-spec : {M : Type 1} → statement M
 print-lines-spec = tie.close (tie.spec answer-fits-requires print-answer-requires number-after-requires same-length returns)

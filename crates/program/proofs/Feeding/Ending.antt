@@ -21,7 +21,7 @@ use Rattle.printers.specs.declared.Program.{Program}
 use Rattle.printers.specs.declared.Program.the-variants.{Board, Sheet}
 use Rattle.printers.specs.declared.Printer.{Printer as PrinterHeld}
 use Rattle.printers.specs.Programs.{printer-by, printer-of}
-use Rattle.program.specs.declared.session.DayAfter.{DayAfter}
+use Rattle.program.specs.declared.answering.DayAfter.{DayAfter}
 use Rattle.program.specs.Inner.Days.{session-of, Given}
 use Rattle.program.specs.Inner.Machines.{PutAt}
 

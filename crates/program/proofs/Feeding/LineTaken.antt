@@ -1,17 +1,21 @@
 -- A line of a chunk taken in: it goes on to the chunk's end and its bytes are kept, or it ends and is answered.
 use mathlib.Core.Bool.{true, false, cond}
-use mathlib.Core.List.{[], _∷_, _++_}
+use mathlib.Core.List.{[], _∷_, _++_, append-nil, append-assoc}
+use mathlib.Core.Option.{Option}
 use mathlib.Core.Path.{_≡_, sym, subst, ap, ap₂, _∙_}
 use Prim.Native.Nat.{ℕ, suc, _+_, _≤_, _<_, min}
 use native.Mathlib.Numerals.{add-one}
 use native.Mathlib.Omega.{arith}
 use borrow.Author.Tests.{ltb-true, ltb-false}
-use lib.ListN.{length, getD}
+use lib.ListN.{length, getD, take}
+use lib.Seq.{take-length}
+use Rattle.board.specs.declared.Board.{Board}
 use Rattle.lines.specs.Bytes.{Bytes, line-end}
 use Rattle.lines.specs.Session.{Session, step, session-after}
 use Rattle.lines.specs.Printers.{Printer, answers-printed, printer-after}
 use Rattle.lines.specs.Machine.{partial-room, after-bytes, printed-along}
 use Rattle.lines.proofs.Cutting.{one-line}
+use Rattle.lines.proofs.LongLines.{step-first, extend-first}
 use Rattle.printing.specs.Lines.{put}
 use Rattle.printing.proofs.Puts.{put-none}
 use Rattle.cutting.specs.declared.Partial.{Partial}
@@ -20,11 +24,14 @@ use Rattle.cutting.specs.Cut.{partial-bytes, part, extend-all, line-end-from, C
 use Rattle.cutting.proofs.Ends.{end-forward, end-inside, end-first, end-found}
 use Rattle.cutting.proofs.Parts.{part-last}
 use Rattle.answers.specs.Printed.{answer-room}
+use Rattle.printers.specs.declared.Printer.{Printer as PrinterHeld}
 use Rattle.printers.specs.Programs.{printer-of}
-use Rattle.program.specs.declared.session.DayAfter.{DayAfter}
+use Rattle.program.specs.declared.session.Day.{Day}
+use Rattle.program.specs.declared.answering.DayAfter.{DayAfter}
 use Rattle.program.specs.declared.feed.State.{State}
 use Rattle.program.specs.Inner.Days.{session-of, GoodDay, Answered}
 use Rattle.program.specs.Inner.Machines.{machine-of, TakenIn}
+use Rattle.program.proofs.Stepping.Answering.{answered-line}
 use Rattle.program.proofs.Feeding.Along.{part-after, part-printed, line-after, line-printed}
 
 -- the line that goes on at `from` ends at `to`
@@ -138,3 +145,39 @@ module _ (k : State) (s : Bytes) (from : ℕ) (out : Bytes) (at : ℕ) {r : Cut}
         subst (λ (n : ℕ). TakenIn k s from out at (record { state = record { day = a .day; printer = a .printer; partial = record { bytes = bytes; len = 0 } }; used = n; at = a .at }) out')
         (sym used-end)
         (taken-line k s from to out at ends (r .partial) (cut .line) ended-in a out' g bytes f)
+
+-- a line whose bytes lie in the chunk, answered where it lies
+kept-first : (l bs : Bytes) → extend-all (take partial-room l) bs ≡ take partial-room (l ++ bs)
+unfolding extend-all
+kept-first l [] = ap (take partial-room) (sym (append-nil l))
+kept-first l (b ∷ bs) =
+    ap (λ (x : Bytes). extend-all x bs) (extend-first b l)
+    ∙ kept-first (l ++ (b ∷ [])) bs
+    ∙ ap (take partial-room) (append-assoc l (b ∷ []) bs)
+
+-- nothing of it is lost by what is kept of a line
+same-step : (o : Option Board) (bs : Bytes) → step o (extend-all [] bs) ≡ step o bs
+unfolding partial-room
+same-step o bs = ap (step o) (kept-first [] bs) ∙ step-first o bs
+
+module _
+    (day : Day) (p : PrinterHeld) (bytes : Bytes) (s : Bytes) (from to : ℕ) (out : Bytes) (at : ℕ) (inside : from ≤ length s) (is : to ≡ line-end-from s from)
+    (m : to < length s)
+  where
+    abbrev before : State
+    before = record { day = day; printer = p; partial = record { bytes = bytes; len = 0 } }
+
+    abbrev kept : Bytes
+    kept = extend-all [] (part s from to)
+
+    pub whole-line : (a : DayAfter) (out' : Bytes) → Answered day p (part s from to) out at a out' → at + answer-room ≤ length out
+        → TakenIn before s from out at (record { state = record { day = a .day; printer = a .printer; partial = record { bytes = bytes; len = 0 } }; used = to + 1; at = a .at }) out'
+    unfolding partial-bytes
+    whole-line a out' g f =
+        let ends : LineEnds s from to =
+        rw is (record { forward = end-forward s from inside; inside = end-inside s from inside; first = end-first s from inside; found = end-found s from inside })
+        in
+        taken-line before s from to out at ends (record { bytes = kept; len = length kept }) (take-length kept) m a out'
+        (answered-line day p (part s from to) (take (length kept) kept) out at a out'
+        (sym (ap (step (session-of day .board)) (take-length kept) ∙ same-step (session-of day .board) (part s from to))) g)
+        bytes f

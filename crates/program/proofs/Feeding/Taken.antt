@@ -101,3 +101,21 @@ module _ {k : State} {s : Bytes} {from : ℕ} {out : Bytes} {at : ℕ} {f : Fed}
 
   pub stops-at-end : length s ≤ f .used → GoesOn s from out at f
   stops-at-end h = record { further = λ r l. omega arith; to-the-end = λ r. omega (arith, a .inside) }
+
+-- the same of a state with the same machine, whose printer has the same number
+pub taken-as : (k l : State) (s : Bytes) (from : ℕ) (out : Bytes) (at : ℕ) (f : Fed) (last : Bytes) → machine-of k ≡ machine-of l → k .printer .number ≡ l .printer .number
+    → TakenIn k s from out at f last → TakenIn l s from out at f last
+taken-as k l s from out at f last e n a =
+    let u = part s from (f .used) in
+    record {
+      good = a .good;
+      partial = a .partial;
+      forward = a .forward;
+      inside = a .inside;
+      number = omega (arith, a .number, n);
+      machine = a .machine ∙ ap (λ (m : Machine). after-bytes m u) e;
+      end = a .end ∙ ap (λ (m : Machine). at + length (printed-along m u)) e;
+      few = a .few;
+      fits = a .fits;
+      bytes = a .bytes ∙ ap (λ (m : Machine). put out at (printed-along m u)) e;
+    }

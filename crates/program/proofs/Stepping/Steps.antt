@@ -27,8 +27,7 @@ use Rattle.lines.proofs.NeverMet.MayMeet.{opened-shallow}
 use Rattle.answers.specs.declared.Answer.the-variants.{Refused, Opened as BoardOpened, Admitted as JobAdmitted, Promised as WaitPromised, Withdrawn as JobWithdrawn}
 use Rattle.answers.specs.Printed.{answer-of}
 use Rattle.program.specs.declared.session.Day.{Day}
-use Rattle.program.specs.declared.session.Stepped.{Stepped}
-use Rattle.program.specs.Inner.Days.{session-of, GoodDay, Did, DidAlone}
+use Rattle.program.specs.Inner.Days.{session-of, GoodDay, SteppedDay, Did, DidAlone}
 
 -- a day with an open board
 abbrev pub open-day : Board → Tally → Day
@@ -37,10 +36,10 @@ open-day b t = record { opened = true; board = b; tally = t }
 abbrev pub open-session : Board → Tally → Session
 open-session b t = record { board = some b; tally = t }
 
-pub did-as : {day : Day} {a b : Step} {r : Stepped} {T G : List ℕ} → a ≡ b → Did day b r T G → Did day a r T G
+pub did-as : {day : Day} {a b : Step} {r : SteppedDay} {T G : List ℕ} → a ≡ b → Did day b r T G → Did day a r T G
 did-as {day} {a} {b} {r} {T} {G} e d = subst (λ (x : Step). Did day x r T G) (sym e) d
 
-pub alone-as : {day : Day} {a b : Step} {r : Stepped} → a ≡ b → DidAlone day b r → DidAlone day a r
+pub alone-as : {day : Day} {a b : Step} {r : SteppedDay} → a ≡ b → DidAlone day b r → DidAlone day a r
 alone-as {day} {a} {b} {r} e d = subst (λ (x : Step). DidAlone day x r) (sym e) d
 
 -- while a board is open it is the day's

@@ -1,5 +1,6 @@
 -- What the program holds between two bytes, as the machine of the definitions; what a chunk of bytes does, and what the end of input does.
 use mathlib.Core.Path.{_≡_}
+use mathlib.Core.List.{List}
 use Prim.Native.Nat.{ℕ, _+_, _*_, _≤_, _<_}
 use lib.ListN.{length}
 use Rattle.lines.specs.Bytes.{Bytes}
@@ -9,9 +10,20 @@ use Rattle.cutting.specs.Cut.{partial-bytes, part}
 use Rattle.answers.specs.Printed.{answer-room}
 use Rattle.printers.specs.declared.Program.{Program as ProgramRun}
 use Rattle.printers.specs.Programs.{program-of, printer-of}
+use Rattle.printers.specs.declared.Printer.{Printer}
+use Rattle.program.specs.declared.session.DayHead.{DayHead}
+use Rattle.program.specs.declared.answering.FedHead.{FedHead}
 use Rattle.program.specs.declared.feed.State.{State}
 use Rattle.program.specs.declared.feed.Fed.{Fed}
-use Rattle.program.specs.Inner.Days.{session-of, GoodDay}
+use Rattle.program.specs.Inner.Days.{session-of, GoodDay, day-in}
+
+-- the state of a program whose day lies in arrays, where no line has begun: these bytes are of no line
+unfoldable pub none-begun : DayHead → Printer → (keys tickets admitted counts : List ℕ) → (bytes : Bytes) → State
+none-begun d k K T A C bytes = record { day = day-in d K T A C; printer = k; partial = record { bytes = bytes; len = 0 } }
+
+-- lines of a chunk taken in, and such a state after them
+unfoldable pub none-begun-after : FedHead → (keys tickets admitted counts : List ℕ) → (bytes : Bytes) → Fed
+none-begun-after r K T A C bytes = record { state = none-begun (r .day) (r .printer) K T A C bytes; used = r .used; at = r .at }
 
 unfoldable pub machine-of : State → Machine
 machine-of k = record { session = session-of (k .day); printer = printer-of (k .printer); partial = partial-bytes (k .partial) }

@@ -11,7 +11,7 @@ after-full-requires : tie.Need-after-full-requires
 after-full-requires c κs = search needs
 
 returns : tie.Need-returns
-returns c = c .after-full .ensures _ _ (counts-seen-deepest _ (c .before .before .counts-of .ensures))
+returns c T A = c .after-full .ensures _ _ (counts-seen-deepest _ (c .before .before .counts-of .ensures T A))
 
 pub promise-spec : {M : Type 1} → statement M
 promise-spec = tie.close (tie.spec counts-of-requires after-full-requires returns)

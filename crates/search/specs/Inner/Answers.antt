@@ -7,9 +7,10 @@ use Prim.Native.Nat.{ℕ, _+_, _-_, _*_, _^_, _≤_}
 use lib.Dec.{eqb}
 use lib.IntN.{ℤ, pos, _-ℤ_}
 use lib.Signed.{ltZ}
+use Rattle.lists.specs.Least.{least}
 use Rattle.rule.specs.Job.{Job}
 use Rattle.rule.specs.Grade.{bits, starting}
-use Rattle.rule.specs.Tight.{tight-laxity, excess}
+use Rattle.rule.specs.Tight.{laxities, tight-laxity, excess}
 use Rattle.rule.specs.Promise.{least-promised}
 use Rattle.rule.specs.Descent.{next-bit, descend}
 use Rattle.board.specs.Limits.{longest-laxity, deepest}
@@ -26,10 +27,6 @@ abbrev pub TightOf : (t : List ℕ) (start left : ℕ) → Best → Type 0
 TightOf t start left r =
     ForJobs t start left
     (λ now d A u. (r .laxity .0 ≡ tight-laxity now (starting d u A)) × (r .excess ≡ excess now (starting d u A) (tight-laxity now (starting d u A))))
-
--- both, and the laxity is no longer than the longest
-abbrev pub Tightest : (t : List ℕ) (start left : ℕ) → Best → Type 0
-Tightest t start left r = TightOf t start left r × (r .laxity .0 ≤ longest-laxity)
 
 -- the smallest excess that they tell: laxity 0 says that there are no jobs, and so none
 unfoldable pub smallest-in : Best → Option ℤ
@@ -50,6 +47,10 @@ DescentOf t start left r = ForJobs t start left (λ now d A u. bits d r ≡ desc
 -- that grade, which starts so
 abbrev pub EndsAt : (t : List ℕ) (start left : ℕ) → ℕ → Type 0
 EndsAt t start left r = DescentOf t start left r × (r + 1 ≤ (start + 1) * 2 ^ left)
+
+-- the least laxity of the jobs of a grade; 0 where there is none
+abbrev pub LeastOf : (t : List ℕ) (grade : ℕ) → ℕ → Type 0
+LeastOf t grade w = ForJobs t grade 0 (λ now d A u. w ≡ least (laxities now (starting d u A)))
 
 -- what can still be promised is w, for all jobs A whose counts are t
 abbrev pub PromiseFor : (t : List ℕ) (w : ℕ) → Type 0

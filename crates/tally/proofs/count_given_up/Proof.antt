@@ -7,28 +7,29 @@ use borrow.Author.Needs.{needs}
 use lib.ListN.{length, drop}
 use Rattle.board.specs.declared.Tally.{Tally}
 use Rattle.board.specs.Events.{given-up-kind, event, fed}
+use Rattle.tally.specs.Inner.Counts.{tally-of}
 use Rattle.tally.proofs.Events.{next-event, no-event}
 use Rattle.tally.proofs.count_given_up.Statement.{statement}
 use Rattle.tally.proofs.count_given_up.Tie as tie
 
 abbrev Inv-loop : tie.InvT-loop
-Inv-loop grades tally₀ i₀ tally i =
-    (i ≤ length grades) × (fed tally (map (event given-up-kind) (drop i grades)) ≡ fed tally₀ (map (event given-up-kind) grades))
+Inv-loop counts₀ grades i₀ counts i =
+    (i ≤ length grades) × (fed (tally-of counts) (map (event given-up-kind) (drop i grades)) ≡ fed (tally-of counts₀) (map (event given-up-kind) grades))
 
 abbrev μ-loop : tie.MeasureT-loop
-μ-loop grades tally₀ i₀ tally i = length grades - i
+μ-loop counts₀ grades i₀ counts i = length grades - i
 
 loop-holds : tie.Need-loop-holds Inv-loop μ-loop
 loop-holds c = (omega arith, refl)
 
-shared-slice-read-fed-event : tie.Need-shared-slice-read-fed-event Inv-loop μ-loop
-shared-slice-read-fed-event c = search needs
+shared-slice-read-feed : tie.Need-shared-slice-read-feed Inv-loop μ-loop
+shared-slice-read-feed c = search needs
 
-cast-fed-event : tie.Need-cast-fed-event Inv-loop μ-loop
-cast-fed-event c = omega (arith, c .shared-slice-known2 .given (c .before .before .loop .i))
+cast-feed : tie.Need-cast-feed Inv-loop μ-loop
+cast-feed c = omega (arith, c .shared-slice-known2 .given (c .before .before .before .loop .i))
 
-fed-event-requires : tie.Need-fed-event-requires Inv-loop μ-loop
-fed-event-requires c κs = search needs
+feed-requires : tie.Need-feed-requires Inv-loop μ-loop
+feed-requires c κs = search needs
 
 add-i : tie.Need-add-i Inv-loop μ-loop
 add-i c = search needs
@@ -39,9 +40,9 @@ loop-less c = search needs
 loop-again : tie.Need-loop-again Inv-loop μ-loop
 unfolding given-up-kind
 loop-again c =
-    let l = c .before .before .before in
+    let l = c .before .before .before .before in
     let rest = drop (l .loop .i + 1) (l .before .before .args .grades .now) in
-    (omega arith, ap (λ (t : Tally). fed t (map (event given-up-kind) rest)) (c .fed-event .ensures) ∙ sym (next-event given-up-kind _ _ _ (c .before .before .loop-test .taken)) ∙ l .loop .inv .1)
+    (omega arith, ap (λ (t : Tally). fed t (map (event given-up-kind) rest)) (c .feed .ensures) ∙ sym (next-event given-up-kind _ _ _ (c .before .before .before .loop-test .taken)) ∙ l .loop .inv .1)
 
 returns : tie.Need-returns Inv-loop μ-loop
 returns c = sym (no-event given-up-kind _ _ _ (c .loop-test .left)) ∙ c .before .loop .inv .1
@@ -53,9 +54,9 @@ count-given-up-spec =
     Inv-loop
     μ-loop
     loop-holds
-    shared-slice-read-fed-event
-    cast-fed-event
-    fed-event-requires
+    shared-slice-read-feed
+    cast-feed
+    feed-requires
     add-i
     loop-less
     loop-again

@@ -1,0 +1,4 @@
+pub mod Places
+pub mod Moving
+pub mod OnSound
+pub mod Keeping
