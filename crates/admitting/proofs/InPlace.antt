@@ -2,15 +2,14 @@
 use mathlib.Core.Path.{_≡_, refl, sym, ap, ap₂, _∙_}
 use mathlib.Core.Bool.{cond}
 use mathlib.Core.List.{List, [], _∷_, _++_}
-use Prim.Native.Nat.{ℕ, zero, suc, _+_, _-_, _*_, _^_, _≤_, _<_}
+use Prim.Native.Nat.{ℕ, zero, suc, _+_, _-_, _≤_, _<_}
 use native.Mathlib.Omega.{arith}
 use lib.Dec.{eqb}
 use lib.ListN.{length, getD, set}
 use borrow.Author.Tests.{eq-eqb, ne-eqb}
 use Rattle.lists.proofs.Tests.{cond-true, cond-false}
 use Rattle.board.specs.declared.Place.{Place}
-use Rattle.board.specs.declared.Admitted.{Admitted}
-use Rattle.board.specs.Limits.{longest-laxity, places-held, last-slot, deepest}
+use Rattle.board.specs.Limits.{longest-laxity, places-held, last-slot}
 use Rattle.board.specs.Tally.{tally-grades}
 use Rattle.board.specs.Held.{slot-number}
 use Rattle.board.specs.Admit.{last-of, with-job, admitted-if}

@@ -1,16 +1,14 @@
 -- The places of a line where its fields end, one behind the other: what the fields are, and how many.
-use mathlib.Core.Path.{_≡_, sym, ap, _∙_}
-use mathlib.Core.Bool.{true}
+use mathlib.Core.Path.{_≡_, ap, _∙_}
 use mathlib.Core.Logic.{_⊎_, inl, inr}
 use Prim.Native.Nat.{ℕ, zero, suc, _+_, _≤_, _<_, max}
-use native.Mathlib.Numerals.{add-one}
 use native.Mathlib.Omega.{arith}
 use lib.Dec.{eqb}
 use lib.ListN.{length, drop, length-drop}
 use lib.Seq.{drop-drop}
 use borrow.Author.Tests.{eqb-true, eq-eqb}
 use Rattle.lists.specs.Before.{before}
-use Rattle.lists.proofs.Before.{before-within, before-past}
+use Rattle.lists.proofs.Before.{before-within}
 use Rattle.lists.proofs.Tests.{cmp, same-test}
 use Rattle.lines.specs.Bytes.{Bytes, comma, fields}
 use Rattle.lines.specs.Reading.{field}

@@ -13,7 +13,7 @@ use Rattle.lists.proofs.Tests.{cmp}
 use Rattle.board.specs.declared.Place.{Place}
 use Rattle.board.specs.declared.Board.{Board}
 use Rattle.board.specs.Limits.{places-held}
-use Rattle.board.specs.Held.{slot-number, blank, passing, thinned}
+use Rattle.board.specs.Held.{blank, passing, thinned}
 use Rattle.board.proofs.Walk.{place-at}
 use Rattle.packing.specs.declared.Head.{Head}
 use Rattle.packing.specs.Inner.Packed.{place-of, place-in, places-in, in-use, filled-up, board-in}

@@ -1,6 +1,5 @@
 -- `packing::pack`: after i turns the first i places are those that the arrays have. Assumes nothing.
 use Prim.Native.Nat.{_-_}
-use native.Mathlib.Omega.{arith}
 use borrow.Author.Needs.{needs}
 use Rattle.board.specs.Limits.{places-held}
 use Rattle.packing.proofs.Moving.{Taken, taken-none, taken-more, taken-all}

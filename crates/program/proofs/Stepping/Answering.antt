@@ -7,9 +7,7 @@ use Prim.Native.Nat.{ℕ, _+_, _^_, _≤_, _<_}
 use native.Mathlib.Omega.{arith}
 use lib.ListN.{length, take}
 use lib.Seq.{length-take-le}
-use Rattle.board.specs.declared.Board.{Board}
 use Rattle.board.specs.Limits.{places-held}
-use Rattle.board.specs.Sound.{sound}
 use Rattle.lines.specs.Bytes.{Bytes}
 use Rattle.lines.specs.Session.{Session, Answer, Step, step, session-after}
 use Rattle.lines.specs.Printers.{answers-printed, printer-after}

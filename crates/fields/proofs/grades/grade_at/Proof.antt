@@ -2,8 +2,7 @@
 use mathlib.Core.Path.{_≡_, sym, ap, _∙_}
 use native.Mathlib.Omega.{arith}
 use borrow.Author.Needs.{needs}
-use lib.ListN.{length, drop}
-use Rattle.lines.specs.Bytes.{comma}
+use lib.ListN.{drop}
 use Rattle.lines.specs.Fields.{a-grade}
 use Rattle.lines.specs.Reading.{field}
 use Rattle.fields.specs.declared.numbers.Field.{Field}

@@ -1,7 +1,6 @@
 -- `number_at` answers a field's number and where the field ends. The loop's invariant: the bytes left end where the field does, and settle with n,
 -- the value of those passed, what the whole field is.
 use Prim.Native.Nat.{ℕ, _+_, _≤_, _-_}
-use mathlib.Core.Bool.{true}
 use mathlib.Core.List.{[]}
 use mathlib.Core.Logic.{⊎-elim}
 use mathlib.Core.Path.{_≡_, refl, sym, ap, _∙_}

@@ -1,7 +1,6 @@
 -- `with_digit`: a digit behind a value that is not too great is added, and the rest is one past the greatest number.
 use mathlib.Core.Bool.{true, false}
 use mathlib.Core.Path.{_≡_, sym, _∙_}
-use native.Mathlib.Omega.{arith}
 use borrow.Author.Needs.{needs}
 use borrow.Author.Tests.{not-true, not-false, le-leb, lt-leb}
 use Rattle.lines.specs.Fields.{is-digit}

@@ -1,19 +1,18 @@
 -- `feed_lines`: what was taken in, and a line more.
-use mathlib.Core.Path.{_≡_, refl, sym, ap, subst, _∙_}
+use mathlib.Core.Path.{_≡_, refl, sym, subst}
 use mathlib.Core.Logic.{⊎-elim}
 use Prim.Native.Nat.{_+_, _-_, _^_, _≤_, _<_}
 use native.Mathlib.Omega.{arith}
 use borrow.Author.Needs.{needs}
-use borrow.Author.Tests.{leb-true, leb-false}
+use borrow.Author.Tests.{leb-true}
 use mathlib.Core.List.{[]}
 use lib.ListN.{length, take, drop}
 use Rattle.lists.proofs.Parts.{drop-take}
 use lib.Seq.{length-take-le}
 use Rattle.board.specs.Limits.{places-held}
 use Rattle.lines.specs.Bytes.{Bytes, line-end}
-use Rattle.lines.specs.Machine.{partial-room}
 use Rattle.cutting.specs.Cut.{part, line-end-from}
-use Rattle.cutting.proofs.Ends.{end-forward, end-inside}
+use Rattle.cutting.proofs.Ends.{end-forward}
 use Rattle.answers.specs.Printed.{answer-room, answer-fits}
 use Rattle.printers.specs.declared.Printed.{Printed}
 use Rattle.printers.specs.Prints.{PrintedIf}

@@ -1,7 +1,5 @@
 -- `feed_whole`: the board is unpacked, the lines that end in the chunk are taken in, and the day is packed again.
 use mathlib.Core.Path.{_≡_, refl, sym, subst}
-use mathlib.Core.Bool.{Bool}
-use native.Mathlib.Omega.{arith}
 use borrow.Author.Needs.{needs}
 use lib.ListN.{take}
 use Rattle.cutting.specs.Cut.{partial-bytes}

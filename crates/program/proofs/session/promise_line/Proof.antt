@@ -1,10 +1,8 @@
 -- `program::session::promise_line`: refused, or the wait; the day is as it was. Assumes nothing.
 use mathlib.Core.Path.{_≡_, refl, _∙_}
-use mathlib.Core.Bool.{true}
 use mathlib.Core.List.{List}
 use Prim.Native.Nat.{ℕ}
 use borrow.Author.Needs.{needs}
-use Rattle.board.specs.Sound.{sound}
 use Rattle.board.specs.Promise.{promised}
 use Rattle.promising.proofs.OnSound.{promise-on-sound}
 use Rattle.program.specs.declared.session.Day.{Day}
