@@ -1,4 +1,6 @@
 // Admitting a job: 01's rows 2 to 7 in order, then the job in the first free place.
+#![tactic(auto)]
+
 ghost use Rattle.std.specs.Prelude.{◌≡◌, ◌≤◌};
 ghost use Rattle.board.specs.Limits.{places_held};
 ghost use Rattle.board.specs.Held.{slot_number};

@@ -1,4 +1,6 @@
 // What the program prints of an answer.
+#![tactic(auto)]
+
 ghost use Rattle.std.specs.Prelude.{◌≡◌, ◌+◌, ◌*◌, ◌≤◌, length};
 ghost use Rattle.lines.specs.Printing.{printed};
 ghost use Rattle.lines.specs.Output.{printed_given_up, printed_closing, printed_answer};

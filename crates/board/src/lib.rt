@@ -1,4 +1,6 @@
 // The board: its types and its four limits. What each call answers and leaves behind is defined in specs/.
+#![tactic(auto)]
+
 ghost use Rattle.std.specs.Prelude.{◌≡◌, ◌^◌, min};
 ghost use Rattle.board.specs.Limits.{longest_laxity, most_in_slot, places_held, last_slot, deepest};
 ghost use Rattle.board.specs.Held.{blank};
@@ -182,16 +184,16 @@ pub struct Counted {
 
 // The limits of the definitions are the board's constants.
 fn limits()
-    ensures* do_value { do ⌜ (← (⟦Board::LONGEST_LAXITY⟧).entry) ≡ longest_laxity ⌝ }
-    ensures* do_value_2 { do ⌜ (← (⟦Board::MOST_IN_SLOT⟧).entry) ≡ most_in_slot ⌝ }
-    ensures* do_value_3 { do ⌜ (← (⟦Board::PLACES⟧).entry) ≡ places_held ⌝ }
-    ensures* do_value_4 { do ⌜ (← (⟦Board::LAST_SLOT⟧).entry) ≡ last_slot ⌝ }
-    ensures* do_value_5 { do ⌜ (← (⟦Board::DEEPEST⟧).entry) ≡ deepest ⌝ }
-    ensures* do_value_6 { do ⌜ (← (⟦Tally::ADMITTED⟧).entry) ≡ admitted_kind ⌝ }
-    ensures* do_value_7 { do ⌜ (← (⟦Tally::BAKED⟧).entry) ≡ baked_kind ⌝ }
-    ensures* do_value_8 { do ⌜ (← (⟦Tally::GIVEN_UP⟧).entry) ≡ given_up_kind ⌝ }
-    ensures* do_value_9 { do ⌜ (← (⟦Tally::WITHDRAWN⟧).entry) ≡ withdrawn_kind ⌝ }
-    ensures* do_value_10 { do ⌜ (← (⟦Tally::KINDS⟧).entry) ≡ tally_kinds ⌝ }
-    ensures* do_value_11 { do ⌜ (← (⟦Tally::GRADES⟧).entry) ≡ tally_grades ⌝ }
-    ensures* do_value_12 { do ⌜ (← (⟦Tally::MOST⟧).entry) ≡ tally_most ⌝ }
+    ensures longest_laxity { Board.LONGEST_LAXITY ≡ longest_laxity }
+    ensures most_in_slot { Board.MOST_IN_SLOT ≡ most_in_slot }
+    ensures places { Board.PLACES ≡ places_held }
+    ensures last_slot { Board.LAST_SLOT ≡ last_slot }
+    ensures deepest { Board.DEEPEST ≡ deepest }
+    ensures admitted { Tally.ADMITTED ≡ admitted_kind }
+    ensures baked { Tally.BAKED ≡ baked_kind }
+    ensures given_up { Tally.GIVEN_UP ≡ given_up_kind }
+    ensures withdrawn { Tally.WITHDRAWN ≡ withdrawn_kind }
+    ensures kinds { Tally.KINDS ≡ tally_kinds }
+    ensures grades { Tally.GRADES ≡ tally_grades }
+    ensures most { Tally.MOST ≡ tally_most }
 {}

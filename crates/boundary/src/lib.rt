@@ -1,4 +1,6 @@
 // The calls for callers in C or Rust. Numbers and structs pass as themselves, a slice as a pointer and then a length.
+#![tactic(auto)]
+
 ghost use Rattle.std.specs.Prelude.{◌≡◌};
 ghost use Rattle.board.specs.Sound.{sound};
 ghost use Rattle.board.specs.Open.{opened};

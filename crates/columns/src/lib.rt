@@ -1,4 +1,6 @@
 // Numbers put to the right into the columns of a line.
+#![tactic(auto)]
+
 ghost use Rattle.std.specs.Prelude.{◌≡◌, ◌+◌, leb, length};
 ghost use Rattle.lines.specs.Printing.{decimal};
 ghost use Rattle.lines.specs.Sheet.{to_right};

@@ -1,4 +1,6 @@
 // Bytes cut into lines of any length, of which so many bytes are kept that one too long is known.
+#![tactic(auto)]
+
 ghost use Rattle.std.specs.Prelude.{◌≡◌, ◌≤◌, min, length, replicate};
 ghost use Rattle.lines.specs.Machine.{partial_room};
 ghost use Rattle.cutting.specs.Cut.{partial_bytes, part, extend_all, CutFrom};

@@ -1,4 +1,6 @@
 // A closing that writes 01's list as it is put there, one entry a job, into a slice of entries that the caller lends.
+#![tactic(auto)]
+
 ghost use Rattle.std.specs.Prelude.{◌≡◌, ◌<◌, length};
 ghost use Rattle.board.specs.Limits.{places_held};
 ghost use Rattle.board.specs.Close.{closed, listing};

@@ -1,4 +1,6 @@
 // The events of a call, counted into the counts of a tally in place. One that is refused changes nothing.
+#![tactic(auto)]
+
 ghost use Rattle.std.specs.Prelude.{◌≡◌, [], ◌∷◌, map};
 ghost use Rattle.board.specs.Events.{admitted_kind, given_up_kind, withdrawn_kind, event, baked_events, fed};
 ghost use Rattle.tally.specs.Inner.Counts.{tally_of};

@@ -1,1 +1,2 @@
 // The theory of tight slots and no-regret choices, by heights: proofs only, no code.
+#![tactic(auto)]

@@ -1,4 +1,6 @@
 // The best day in hindsight: the call, over the search for a slot (search), the choice of the jobs (choice) and their layout (layout).
+#![tactic(auto)]
+
 ghost use Rattle.std.specs.Prelude.{◌≡◌, ◌≤◌, replicate};
 ghost use Rattle.lists.specs.Select.{every};
 ghost use Rattle.matching.specs.Windows.{most_jobs, is_window, windows_of};

@@ -1,4 +1,6 @@
 // Lists and numbers: definitions in specs, their laws in proofs, and the functions that code above shares.
+#![tactic(auto)]
+
 ghost use Rattle.std.specs.Prelude.{◌≡◌, ◌+◌, min, drop};
 ghost use Rattle.lists.specs.Before.{before};
 

@@ -1,5 +1,7 @@
 // The best day in hindsight (02, Ten): jobs with windows of slots, best first, the plan that bakes as many of the first m as any plan can, for every m at
 // once, and what the call answers. The types are here, the definitions in specs/, their theory in proofs/.
+#![tactic(auto)]
+
 ghost use Rattle.std.specs.Prelude.{◌≡◌};
 ghost use Rattle.matching.specs.Windows.{most_jobs, slot_count};
 
@@ -46,6 +48,6 @@ pub struct BestDay {
 
 // The limits of the definitions are the constants of `Jobs`.
 fn limits()
-    ensures* do_value { do ⌜ (← (⟦Jobs::MOST⟧).entry) ≡ most_jobs ⌝ }
-    ensures* do_value_2 { do ⌜ (← (⟦Jobs::SLOTS⟧).entry) ≡ slot_count ⌝ }
+    ensures most { Jobs.MOST ≡ most_jobs }
+    ensures slots { Jobs.SLOTS ≡ slot_count }
 {}

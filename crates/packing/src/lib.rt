@@ -1,5 +1,7 @@
 // The board's jobs as three arrays of numbers, and a board's other numbers beside them. A function can be lent such arrays and write them in place, where a
 // board passes by value. The key of a job is its last slot and its grade in one number.
+#![tactic(auto)]
+
 ghost use Rattle.std.specs.Prelude.{◌≡◌};
 ghost use Rattle.packing.specs.Inner.Packed.{key_of, place_of, board_in, packable};
 

@@ -1,4 +1,6 @@
 // The page of the sheet that is being filled: the closings on it, and one more handed to it.
+#![tactic(auto)]
+
 ghost use Rattle.std.specs.Prelude.{◌≡◌, ◌≤◌, length};
 ghost use Rattle.lines.specs.Sheet.{page_slots, most_given_up, sheet_number, is_full, page_after};
 ghost use Rattle.page.specs.Pages.{figures_held, page_of, new_page, next_place, handed_over};
@@ -116,6 +118,6 @@ pub fn is_full(page: Page) -> bool
 
 // The constants are the numbers of the definitions.
 fn limits()
-    ensures* do_value { do ⌜ (← (⟦Page::SLOTS⟧).entry) ≡ page_slots ⌝ }
-    ensures* do_value_2 { do ⌜ (← (⟦Page::MOST_GIVEN_UP⟧).entry) ≡ most_given_up ⌝ }
+    ensures slots { Page.SLOTS ≡ page_slots }
+    ensures most_given_up { Page.MOST_GIVEN_UP ≡ most_given_up }
 {}

@@ -1,4 +1,6 @@
 // The calls of the sheet's pages.
+#![tactic(auto)]
+
 ghost use Rattle.std.specs.Prelude.{◌≡◌, length};
 ghost use Rattle.lines.specs.Sheet.{page, is_full, page_after};
 ghost use Rattle.buffer.specs.Puts.{PutIf};

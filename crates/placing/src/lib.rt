@@ -1,4 +1,6 @@
 // Admitting a job on a board in arrays, in place: the same rows, then the job in the first free place.
+#![tactic(auto)]
+
 ghost use Rattle.std.specs.Prelude.{◌≡◌, ◌≤◌};
 ghost use Rattle.board.specs.Limits.{places_held};
 ghost use Rattle.board.specs.Held.{slot_number};

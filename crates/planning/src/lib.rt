@@ -1,4 +1,6 @@
 // The program of the best day in hindsight as one call, for a `main` in C: a program in Rattle has no exit status of its own.
+#![tactic(auto)]
+
 ghost use Rattle.planning.specs.Status.{Reported};
 
 pub mod plan;

@@ -1,4 +1,6 @@
 // The two programs over one day: the board's lines, and the sheet's pages. What each prints of an answer, and at the end of input.
+#![tactic(auto)]
+
 ghost use Rattle.std.specs.Prelude.{◌≡◌, length, if◌then◌else◌};
 ghost use Rattle.lines.specs.Printers.{last_page};
 ghost use Rattle.buffer.specs.Puts.{PutIf};

@@ -1,4 +1,6 @@
 // One line of the program's output, put into a buffer that the caller lends: a letter, numbers each behind a comma, and a line end.
+#![tactic(auto)]
+
 ghost use Rattle.std.specs.Prelude.{[], ◌∷◌, ◌≡◌, ◌+◌, ◌/◌, ◌%◌, ◌≤◌, ◌<◌, leb, length, take};
 ghost use Rattle.lines.specs.Printing.{decimal, printed};
 ghost use Rattle.buffer.specs.Puts.{put, PutWithin, PutIf};

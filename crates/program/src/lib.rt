@@ -1,4 +1,6 @@
 // The two programs as one call each, for a `main` in C: a program in Rattle has no exit status of its own.
+#![tactic(auto)]
+
 ghost use Rattle.lines.specs.Printers.{board_program, sheet_program};
 ghost use Rattle.program.specs.Status.{Reported};
 

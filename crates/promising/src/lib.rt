@@ -1,4 +1,6 @@
 // What can still be promised: 02's rows 2 and 3 in order, then the least laxity that one job more can have.
+#![tactic(auto)]
+
 ghost use Rattle.std.specs.Prelude.{◌≡◌};
 ghost use Rattle.board.specs.Promise.{promised_refused, promised};
 ghost use Rattle.promising.specs.Inner.Seen.{PromisedOf};

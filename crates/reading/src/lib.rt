@@ -1,4 +1,6 @@
 // One line of the program's input, read: 01, 'Lines' and rows 11 to 15.
+#![tactic(auto)]
+
 ghost use Rattle.std.specs.Prelude.{◌≡◌};
 ghost use Rattle.lines.specs.Reading.{field, longest_line};
 ghost use Rattle.requests.specs.Answers.{asked_result};

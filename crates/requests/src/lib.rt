@@ -1,4 +1,6 @@
 // What the fields of a line ask for, behind its letter: row 14, or a request.
+#![tactic(auto)]
+
 ghost use Rattle.std.specs.Prelude.{◌≡◌, length};
 ghost use Rattle.lines.specs.Bytes.{letter_A, letter_D, letter_W};
 ghost use Rattle.lines.specs.Reading.{field};

@@ -1,4 +1,6 @@
 // The rows of admitting, 01's rows 3 to 7 in order, and those of a closing (module `close`).
+#![tactic(auto)]
+
 ghost use Rattle.std.specs.Prelude.{◌≡◌, ◌&&◌, ◌≤◌, leb};
 ghost use Rattle.board.specs.Limits.{longest_laxity, deepest};
 ghost use Rattle.board.specs.Rows.{first_given, admit_rows};

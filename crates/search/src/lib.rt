@@ -3,6 +3,8 @@
 // It takes any board, and goes by the jobs that it sees there; on a sound board these are all.
 // A start of a grade is the number of its first bits, `start`, with `left` bits left: the grades that start so are the 2 ^ left from start * 2 ^ left
 // on. All of them are below (start + 1) * 2 ^ left, which is at most 2 ^ depth.
+#![tactic(auto)]
+
 ghost use Rattle.search.specs.Inner.Found.{BakedPacked, PromisedPacked};
 
 use board::{Board, Laxity, Slot};

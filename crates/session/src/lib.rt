@@ -1,4 +1,6 @@
 // What a line does to the day. While lines are answered the day's jobs and counts lie in arrays, which are written in place.
+#![tactic(auto)]
+
 ghost use Rattle.std.specs.Prelude.{◌≡◌, true, List, ℕ};
 ghost use Rattle.lines.specs.Fields.{grade_meant};
 ghost use Rattle.lines.specs.Session.{step_open, step_admit, step_close, step_promise, step_withdraw, step};

@@ -1,4 +1,6 @@
 // The print of the sheet's page, at its place in a buffer that the caller lends.
+#![tactic(auto)]
+
 ghost use Rattle.std.specs.Prelude.{◌≡◌, length};
 ghost use Rattle.lines.specs.Sheet.{line_columns, page};
 ghost use Rattle.buffer.specs.Puts.{PutIf};

@@ -1,4 +1,6 @@
 // The smallest excess found so far, and the shortfall from it; and the lowest ticket of the jobs with one key.
+#![tactic(auto)]
+
 ghost use Rattle.std.specs.Prelude.{◌≡◌, ◌||◌, cond, ◌^◌, ◌<◌, min, eqb};
 ghost use Rattle.std.proofs.Math.Option.{some};
 ghost use Rattle.std.specs.Int.Signed.{lt_z};

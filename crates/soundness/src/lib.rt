@@ -1,5 +1,7 @@
 // Whether a board is sound: its limits, then one walk along its jobs and one along the places past them. Tests are joined
 // by `&` and not by `&&`: this runs at every public call, and the walks then have no branch to guess.
+#![tactic(auto)]
+
 ghost use Rattle.std.specs.Prelude.{◌≡◌, ◌≤◌};
 ghost use Rattle.board.specs.Limits.{places_held, deepest};
 ghost use Rattle.board.specs.Held.{used};

@@ -1,4 +1,6 @@
 // How a program's run ends, and its exit status.
+#![tactic(auto)]
+
 ghost use Rattle.std.specs.Prelude.{◌≡◌};
 ghost use Rattle.status.specs.Status.{status};
 

@@ -1,5 +1,7 @@
 // Reads and writes on a descriptor, tried again where a signal came between or they would block. No contract can say which bytes the system
 // moved: these say how many it answered for.
+#![tactic(auto)]
+
 ghost use Rattle.std.specs.Prelude.{◌≤◌, length};
 ghost use Rattle.streams.specs.Got.{Within};
 

@@ -1,4 +1,6 @@
 // What the program prints of a tally: a line for each grade.
+#![tactic(auto)]
+
 ghost use Rattle.std.specs.Prelude.{◌≡◌, ◌+◌, ◌≤◌, ◌<◌, length};
 ghost use Rattle.board.specs.Tally.{tally_kinds, tally_grades, count_at};
 ghost use Rattle.lines.specs.Output.{printed_tally};

@@ -1,4 +1,6 @@
 // The tally: a count for each kind of event and each grade, kept by the caller.
+#![tactic(auto)]
+
 ghost use Rattle.std.specs.Prelude.{◌≡◌, ◌||◌, leb};
 ghost use Rattle.board.specs.Tally.{tally_kinds, tally_grades, zero_tally, counted};
 ghost use Rattle.tally.specs.Inner.Counts.{tally_of};

@@ -1,4 +1,6 @@
 // The totals of a page.
+#![tactic(auto)]
+
 ghost use Rattle.std.specs.Prelude.{◌≡◌};
 ghost use Rattle.lines.specs.Sheet.{number_baked, number_given_up};
 ghost use Rattle.page.specs.Pages.{page_of};

@@ -1,4 +1,6 @@
 // Withdrawing a job: 02's rows 2, 3 and 17 in order, then the board without it.
+#![tactic(auto)]
+
 ghost use Rattle.std.specs.Prelude.{◌≡◌};
 ghost use Rattle.rule.specs.Job.{with_ticket};
 ghost use Rattle.board.specs.Held.{held};

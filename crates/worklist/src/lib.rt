@@ -1,4 +1,6 @@
 // A list of racks, a line `first,last` each, best first: its windows, or the first line that is refused.
+#![tactic(auto)]
+
 ghost use Rattle.std.specs.Prelude.{◌≡◌, ◌+◌, ◌≤◌, min};
 ghost use Rattle.matching.specs.Windows.{most_jobs, no_window, is_window as is_window_of, windows_of};
 ghost use Rattle.worklist.specs.Lines.{window_read};
@@ -39,7 +41,7 @@ impl Collected {
 
 // The limit of the definitions is the constant of `Collected`.
 fn limits()
-    ensures* { do ⌜ (← (⟦Collected::MOST_READ⟧).entry) ≡ most_read ⌝ }
+    ensures { Collected.MOST_READ ≡ most_read }
 {}
 
 // What is proved of what is printed of a list.
