@@ -25,6 +25,7 @@ least_from_mem m (n ∷ l) = go (cmp m n) (Memᴰ.cases_cons (least_from_mem (mi
 
 least_from_least : (m : ℕ) (l : List ℕ) {x : ℕ} → Memᴰ x l → least_from m l ≤ x
 unfolding least_from
+least_from_least m [] k = elim k [ ]
 least_from_least m (n ∷ l) (Memᴰ.head e) = omega (arith, least_from_below (min m n) l)
 least_from_least m (n ∷ l) (Memᴰ.tail k) = least_from_least (min m n) l k
 
@@ -35,5 +36,6 @@ least_mem (n ∷ l) k = least_from_mem n l
 
 pub least_least : (l : List ℕ) {x : ℕ} → Memᴰ x l → least l ≤ x
 unfolding least
+least_least [] k = elim k [ ]
 least_least (n ∷ l) (Memᴰ.head e) = omega (arith, least_from_below n l)
 least_least (n ∷ l) (Memᴰ.tail k) = least_from_least n l k

@@ -9,10 +9,10 @@ use borrow.Author.Tests.{ltb-true, lt-ltb, leb-true, le-leb}
 use Rattle.lists.specs.Rise.{rise, never_fall, rising, never_falling}
 use Rattle.lists.proofs.Tests.{and_left, and_right, and_intro}
 
-pub rise_above : (m : ℕ) {x : ℕ} {l : List ℕ} → rise m l ≡ true → Memᴰ x l → m < x
+pub rise_above : {x : ℕ} (m : ℕ) {l : List ℕ} → rise m l ≡ true → Memᴰ x l → m < x
 unfolding rise
-rise_above m {x} h (Memᴰ.head {x = n} {xs = l} e) = omega (arith, ltb-true m n (and_left (ltb m n) (rise n l) h))
-rise_above m {x} h (Memᴰ.tail {x = n} {xs = l} k) =
+rise_above {x} m h (Memᴰ.head {x = n} {xs = l} e) = omega (arith, ltb-true m n (and_left (ltb m n) (rise n l) h))
+rise_above {x} m h (Memᴰ.tail {x = n} {xs = l} k) =
     omega (arith, ltb-true m n (and_left (ltb m n) (rise n l) h), rise_above n (and_right (ltb m n) (rise n l) h) k)
 
 -- a list that rises to n goes on with what rises above n
@@ -25,10 +25,10 @@ rise_append m n (x ∷ k) l h b c g =
     and_intro (ltb m x) (rise x (k ++ l)) (and_left (ltb m x) (rise x k) h)
     (rise_append x n k l (and_right (ltb m x) (rise x k) h) (λ y e. b y (Memᴰ.tail e)) (b x (Memᴰ.head refl)) g)
 
-pub never_fall_above : (m : ℕ) {x : ℕ} {l : List ℕ} → never_fall m l ≡ true → Memᴰ x l → m ≤ x
+pub never_fall_above : {x : ℕ} (m : ℕ) {l : List ℕ} → never_fall m l ≡ true → Memᴰ x l → m ≤ x
 unfolding never_fall
-never_fall_above m {x} h (Memᴰ.head {x = n} {xs = l} e) = omega (arith, leb-true m n (and_left (leb m n) (never_fall n l) h))
-never_fall_above m {x} h (Memᴰ.tail {x = n} {xs = l} k) =
+never_fall_above {x} m h (Memᴰ.head {x = n} {xs = l} e) = omega (arith, leb-true m n (and_left (leb m n) (never_fall n l) h))
+never_fall_above {x} m h (Memᴰ.tail {x = n} {xs = l} k) =
     omega (arith, leb-true m n (and_left (leb m n) (never_fall n l) h), never_fall_above n (and_right (leb m n) (never_fall n l) h) k)
 
 -- order alone, and order above a first bound
