@@ -13,7 +13,7 @@ pub record Closing : Type 0 where
 
 infix 90 ◌gives_up◌
 unfoldable pub ◌gives_up◌ : ℕ → List ℕ → Closing
-t Gives_up ts = record { ticket = t; given_up = ts }
+t gives_up ts = record { ticket = t; given_up = ts }
 
 -- what is said of a board: the excess of a wait, l* with the tight set's tickets, the first closings, and what can still be promised with this longest wait
 pub data Fact : Type 0 where
@@ -46,24 +46,24 @@ table =
       facts = excess_is 3 (pos 1) ∷ excess_is 5 (pos 2) ∷ excess_is 7 (pos 1) ∷ excess_is 9 (pos 2) ∷ tight_is 3 (1 ∷ 2 ∷ []) ∷ [];
     }
     -- 2: grade 1 is baked first, then grade 0
-    ∷ record { depth = 1; waiting = 1 of_grade 1 ∷ 2 of_grade 0 ∷ []; facts = closes (1 Gives_up [] ∷ 2 Gives_up [] ∷ []) ∷ [] }
+    ∷ record { depth = 1; waiting = 1 of_grade 1 ∷ 2 of_grade 0 ∷ []; facts = closes (1 gives_up [] ∷ 2 gives_up [] ∷ []) ∷ [] }
     -- 3: grade 0 is baked, grade 1 given up
-    ∷ record { depth = 1; waiting = 1 of_grade 1 ∷ 1 of_grade 0 ∷ []; facts = closes (2 Gives_up (1 ∷ []) ∷ []) ∷ [] }
+    ∷ record { depth = 1; waiting = 1 of_grade 1 ∷ 1 of_grade 0 ∷ []; facts = closes (2 gives_up (1 ∷ []) ∷ []) ∷ [] }
     -- 4: grade 0, then the 2/1
-    ∷ record { depth = 1; waiting = 1 of_grade 1 ∷ 2 of_grade 1 ∷ 2 of_grade 0 ∷ []; facts = closes (3 Gives_up (1 ∷ []) ∷ 2 Gives_up [] ∷ []) ∷ [] }
+    ∷ record { depth = 1; waiting = 1 of_grade 1 ∷ 2 of_grade 1 ∷ 2 of_grade 0 ∷ []; facts = closes (3 gives_up (1 ∷ []) ∷ 2 gives_up [] ∷ []) ∷ [] }
     -- 5: grade 0 (lower ticket), then 1, then 0
-    ∷ record { depth = 1; waiting = 2 of_grade 1 ∷ 3 of_grade 0 ∷ 3 of_grade 0 ∷ []; facts = closes (2 Gives_up [] ∷ 1 Gives_up [] ∷ 3 Gives_up [] ∷ []) ∷ [] }
+    ∷ record { depth = 1; waiting = 2 of_grade 1 ∷ 3 of_grade 0 ∷ 3 of_grade 0 ∷ []; facts = closes (2 gives_up [] ∷ 1 gives_up [] ∷ 3 gives_up [] ∷ []) ∷ [] }
     -- 6: the 1/2 first
-    ∷ record { depth = 2; waiting = 2 of_grade 1 ∷ 1 of_grade 2 ∷ 3 of_grade 0 ∷ []; facts = closes (2 Gives_up [] ∷ []) ∷ [] }
+    ∷ record { depth = 2; waiting = 2 of_grade 1 ∷ 1 of_grade 2 ∷ 3 of_grade 0 ∷ []; facts = closes (2 gives_up [] ∷ []) ∷ [] }
     -- 7: the 2/1 first, 1/2 given up; then grade 0, then 3
     ∷ record {
       depth = 2;
       waiting = 2 of_grade 1 ∷ 1 of_grade 2 ∷ 3 of_grade 0 ∷ 3 of_grade 3 ∷ [];
-      facts = closes (1 Gives_up (2 ∷ []) ∷ 3 Gives_up [] ∷ 4 Gives_up [] ∷ []) ∷ [];
+      facts = closes (1 gives_up (2 ∷ []) ∷ 3 gives_up [] ∷ 4 gives_up [] ∷ []) ∷ [];
     }
     -- 8: one rack 3/0: it is baked; empty board: empty
-    ∷ record { depth = 1; waiting = 3 of_grade 0 ∷ []; facts = closes (1 Gives_up [] ∷ 0 Gives_up [] ∷ []) ∷ [] }
-    ∷ record { depth = 1; waiting = []; facts = closes (0 Gives_up [] ∷ []) ∷ promises 4 1 ∷ [] }
+    ∷ record { depth = 1; waiting = 3 of_grade 0 ∷ []; facts = closes (1 gives_up [] ∷ 0 gives_up [] ∷ []) ∷ [] }
+    ∷ record { depth = 1; waiting = []; facts = closes (0 gives_up [] ∷ []) ∷ promises 4 1 ∷ [] }
     -- 02, Six: past the last full wait, not the first; with no longer one, none
     ∷ record { depth = 0; waiting = 1 of_grade 0 ∷ 4 of_grade 0 ∷ 4 of_grade 0 ∷ 4 of_grade 0 ∷ []; facts = promises 5 5 ∷ promises 4 0 ∷ [] }
     -- the longest wait full, and one rack fewer; then more racks than slots
@@ -85,7 +85,7 @@ unfoldable pub closings : (now d n : ℕ) → List Job → List Closing
 closings now d zero A = []
 closings now d (suc n) A =
     let o = baked now d A in
-    ticket_of o Gives_up tickets (select (expires now (ticket_of o)) A) ∷ closings (suc now) d n (select (stays now (ticket_of o)) A)
+    ticket_of o gives_up tickets (select (expires now (ticket_of o)) A) ∷ closings (suc now) d n (select (stays now (ticket_of o)) A)
 
 -- what the definitions say in its place, in slot 1
 unfoldable pub computed : ℕ → List Job → Fact → Fact

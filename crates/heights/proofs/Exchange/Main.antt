@@ -21,7 +21,7 @@ use Rattle.heights.proofs.Exchange.Served.{exchange_served}
 
 -- x has expired: P is ahead
 expired : {n x y : ℕ} {P Q : Sides} → Exchanged n x y P Q → x < n → Ahead n P Q
-expired {n} {x} {y} {P} {Q} E h = record { side = λ b. elim b [ false ↦ zeros | true ↦ ones ]; back = exchange_back E }
+expired {n} {x} {y} {P} {Q} E h = record { side = λ b. elim b as (λ v. Reach n 0 (P v) (Q v)) [ false ↦ zeros | true ↦ ones ]; back = exchange_back E }
   where
     zeros : Reach n 0 (P false) (Q false)
     zeros = record { to = λ s i. (s, omega arith, omega (arith, E.x_more.high s i (omega arith))) }

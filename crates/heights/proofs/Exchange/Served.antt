@@ -92,7 +92,7 @@ module _ (fs : List (Slot Sides)) (F : Sides) (ahead : AheadNoLess fs) (exchange
           let ones = ones_ahead E nx C.tight C.pick p.out pl kq in
           let A : Ahead (suc n) R S' =
           record {
-            side = λ x. elim x [ true ↦ ones | false ↦ r b.0 b.1 em ];
+            side = λ x. elim x as (λ v. Reach (suc n) 0 (R v) (S' v)) [ true ↦ ones | false ↦ r b.0 b.1 em ];
             back = removal (exchange_back E) D.tight (out_side false Q S' b.1 kq) em (out_side true P R p.out p.kept);
           }
           in

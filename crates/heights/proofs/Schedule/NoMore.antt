@@ -44,8 +44,8 @@ pub no_schedule_more_from : {n : ℕ} {A C : Part} {fs : List Part} {js ks : Lis
     → sum (take i ks) ≤ sum (take i js) + d
 no_schedule_more_from d zero r p q = omega arith
 no_schedule_more_from d (suc i) r stop stop = omega arith
-no_schedule_more_from d (suc i) r (next {F = F} {ks = js} T a x p) (next {ks = ks} U c y q) =
-    omega (arith, step (sum (take i js)) (sum (take i ks)) r x y (λ e z. no_schedule_more_from e i (reach_join F z) p q))
+no_schedule_more_from {n} d (suc i) r (next {F = F} {ks = js} T a x p) (next {ks = ks} U c y q) =
+    omega (arith, step (sum (take i js)) (sum (take i ks)) r x y (λ e z. no_schedule_more_from {n = suc n} e i (reach_join F z) p q))
 
 -- from one part: in the first i slots, whatever i
 pub no_schedule_more : {n : ℕ} {S : Part} {fs : List Part} {js ks : List ℕ} → TightRun n S fs js → Schedule n S fs ks → (i : ℕ)

@@ -31,7 +31,7 @@ abbrev pub part : List Job → Part
 part A = part_of (λ (r : Job). r.last) A
 
 -- past a member's last slot the count has fallen
-pub member_falls : {A : List Job} {r : Job} → Memᴰ r A → (s t : ℕ) → s ≤ r.last → r.last < t → from_on A t < from_on A s
+pub member_falls : {r : Job} {A : List Job} → Memᴰ r A → (s t : ℕ) → s ≤ r.last → r.last < t → from_on A t < from_on A s
 member_falls {r = r} (Memᴰ.head {x = q} {xs = A} e) s t h k =
     omega (arith, ap (λ (x : Job). x.last) e, from_on_cons q A s, from_on_cons q A t, (part A).anti s t (omega arith))
 member_falls (Memᴰ.tail {x = q} {xs = A} m) s t h k = omega (arith, member_falls m s t h k, from_on_cons q A s, from_on_cons q A t)
