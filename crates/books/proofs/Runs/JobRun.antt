@@ -9,7 +9,7 @@ use Rattle.books.specs.Book.{Beginning, Change, enter, end_slot}
 use Rattle.books.specs.Rule.{Rule, valid, without}
 use Rattle.books.specs.Rival.{Setting}
 use Rattle.books.specs.NoRegretRule.{EachClosing}
-use Rattle.books.proofs.Walks.Place.{Place, entering, EachFrom, named, each_from}
+use Rattle.books.proofs.Walks.Place.{Place, entering, closing, EachFrom, named, each_from}
 use Rattle.books.proofs.Walks.Groups.{first, later}
 use Rattle.books.proofs.Walks.Left.{Left}
 use Rattle.books.proofs.Walks.GoesOn.{GoesOn, goes_enter, goes_end}
@@ -34,11 +34,11 @@ unfolding first later picks EachClosing
 job_run {es = []} test q d b k a = done
 job_run {P = P} {es = enter t w g ∷ es} test q d b k a =
     subst (λ (X : List Job). JobRun test P.slot X (later P.slot es) (picks q d b (entering P t w g) es))
-    (append_assoc P.left (job t P.slot w g ∷ []) (first P.slot es)) (job_run test q d b (goes_enter k) a)
+    (append_assoc P.left (job t P.slot w g ∷ []) (first P.slot es)) (job_run {h = t} {P = entering P t w g} {es = es} test q d b (goes_enter k) a)
 job_run {h = h} {P} {es = end_slot ∷ es} test q d b k a =
     let x = named q d b P in
     subst (λ (X : List Job). JobRun test P.slot X (later P.slot (end_slot ∷ es)) (picks q d b P (end_slot ∷ es))) (sym (append-nil P.left))
-    (step x (record { h = h; left = k.left; pass = a.0 }) (job_run test q d b (goes_end x k) a.1))
+    (step x (record { h = h; left = k.left; pass = a.0 }) (job_run {h = h} {P = closing P x} {es = es} test q d b (goes_end x k) a.1))
 
 -- any rule's
 pub any_job_run : {S : Setting} {h : ℕ} {P : Place} {es : List Change} (q : Rule) (d : ℕ) (b : Beginning) → GoesOn S h P es

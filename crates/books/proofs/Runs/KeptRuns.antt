@@ -92,13 +92,13 @@ tree_arrives d n K F =
     (same_tree_sym d n (tree d (items d K ++ items d F)) T (tree_append d n (items d K) (items d F)))
 
 -- the first i closings
-pub tree_run : {s j d : ℕ} {A : List Job} {Fs : List (List Job)} {os : List (Option Job)} → j ≤ d → JobRun (keeps_at j d) s A Fs os → (i : ℕ)
+pub tree_run : {j d s : ℕ} {A : List Job} {Fs : List (List Job)} {os : List (Option Job)} → j ≤ d → JobRun (keeps_at j d) s A Fs os → (i : ℕ)
     → Run j d s (tree d (items d A)) (slots d (groups d (take i Fs))) (λ v. tally (graded d v) os i)
 unfolding groups slots tally adds
 tree_run k done zero = R.stop (λ v. refl)
 tree_run k done (suc i) = R.stop (λ v. refl)
 tree_run k (step x n r) zero = R.stop (λ v. refl)
-tree_run {s} {j} {d} {A} k (step {F = F} {os = os} x n r) (suc i) =
+tree_run {j} {d} {s} {A} k (step {F = F} {os = os} x n r) (suc i) =
     let rest = without (valid s A x) A in
     let st = tree_step j d s n.h A x k n.left (kept j d s n.h A x n.left n.pass) in
     R.serve (tree d (items d rest)) st.0 (λ v. tally (graded d v) os i) st.1 (run_same (tree_arrives d (suc s) rest F) (tree_run k r i))

@@ -61,8 +61,8 @@ module _ (q : Rule) (d : ℕ) (b : Beginning) where
       → get_or (picks q d b P es) k none ≡ some x → r.ticket ≡ x.ticket → i ≡ k
   unfolding picks ticket_of
   picks_once {es = []} g i k r x e f z = absurd (Memᴰ.not-nil (getD_mem [] i r e))
-  picks_once {es = enter t w n ∷ es} g i k r x e f z = picks_once (goes_enter g) i k r x e f z
-  picks_once {S} {h} {P} {es = end_slot ∷ es} g i k r x e f z = go i k e f (λ a c m n. picks_once (goes_end y g) a c r x m n z)
+  picks_once {P = P} {es = enter t w n ∷ es} g i k r x e f z = picks_once {h = t} {P = entering P t w n} {es = es} (goes_enter g) i k r x e f z
+  picks_once {S} {h} {P} {es = end_slot ∷ es} g i k r x e f z = go i k e f (λ a c m n. picks_once {h = h} {P = closing P y} {es = es} (goes_end y g) a c r x m n z)
     where
       y : ℕ
       y = named q d b P

@@ -50,8 +50,8 @@ module _ (f : Choice) (d : ℕ) (b : Beginning) where
   pub reached_after : {P : Place} (es : List Change) → Reached f d b P → Reached f d b (after (by_choice f) d b P es)
   unfolding after
   reached_after [] h = h
-  reached_after (enter t w g ∷ es) h = reached_after es (reached_enter t w g h)
-  reached_after (end_slot ∷ es) h = reached_after es (reached_end h)
+  reached_after {P = P} (enter t w g ∷ es) h = reached_after {P = entering P t w g} es (reached_enter t w g h)
+  reached_after {P = P} (end_slot ∷ es) h = reached_after {P = closing P (by_choice f d b P.past)} es (reached_end h)
 
   choices_chosen : (P : Place) → Reached f d b P → (es : List Change)
       → choices (by_choice f) d b P.past P.slot P.left es ≡ chosen f d b P.past P.slot P.left es

@@ -44,8 +44,8 @@ pub goes_after : {S : Setting} {h : ℕ} {P : Place} (q : Rule) (d : ℕ) (b : B
     → GoesOn S (raised h es) (after q d b P es) fs
 unfolding raised after
 goes_after q d b [] fs k = k
-goes_after q d b (enter t w g ∷ es) fs k = goes_after q d b es fs (goes_enter k)
-goes_after {P = P} q d b (end_slot ∷ es) fs k = goes_after q d b es fs (goes_end (named q d b P) k)
+goes_after {P = P} q d b (enter t w g ∷ es) fs k = goes_after {h = t} {P = entering P t w g} q d b es fs (goes_enter k)
+goes_after {h = h} {P = P} q d b (end_slot ∷ es) fs k = goes_after {h = h} {P = closing P (named q d b P)} q d b es fs (goes_end (named q d b P) k)
 
 -- the changes so far are lifted, and what may come after them
 pub lifted_append : (S : Setting) (h : ℕ) (es fs : List Change) → lifted S h (es ++ fs) ≡ true → (lifted S h es ≡ true) × (lifted S (raised h es) fs ≡ true)

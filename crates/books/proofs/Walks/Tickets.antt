@@ -38,7 +38,7 @@ pub rising_above : {m : ℕ} {x : Job} {L : List Job} → Rising m L → Memᴰ 
 rising_above {m} h k = rise_above m h.rises (Memᴰ.map (λ (r : Job). r.ticket) k)
 
 -- a ticket names one job
-pub one_job : {m : ℕ} {x y : Job} {L : List Job} → Rising m L → Memᴰ x L → Memᴰ y L → x.ticket ≡ y.ticket → x ≡ y
+pub one_job : {x y : Job} {m : ℕ} {L : List Job} → Rising m L → Memᴰ x L → Memᴰ y L → x.ticket ≡ y.ticket → x ≡ y
 one_job h (Memᴰ.head e) (Memᴰ.head f) q = e ∙ sym f
 one_job h (Memᴰ.head e) (Memᴰ.tail k) q = absurd (omega (arith, rising_above (rising_tail h) k, ap (λ (y : Job). y.ticket) e))
 one_job h (Memᴰ.tail k) (Memᴰ.head e) q = absurd (omega (arith, rising_above (rising_tail h) k, ap (λ (y : Job). y.ticket) e))

@@ -26,7 +26,7 @@ unfolding without
 without_tail t r L f = select_yes (λ x. not (eqb x.ticket t)) r L (ap not (ne_eqb r.ticket t f))
 
 -- a job's ticket takes the job away and no other
-pub without_less : {m : ℕ} {p : Job} {L : List Job} → Rising m L → Memᴰ p L → Less p L (without p.ticket L)
+pub without_less : {p : Job} {m : ℕ} {L : List Job} → Rising m L → Memᴰ p L → Less p L (without p.ticket L)
 without_less {p = p} h (Memᴰ.head {x = r} {xs = L} e) =
     let gone : without r.ticket (r ∷ L) ≡ L =
     without_head r L ∙ without_none r.ticket L (λ x k q. omega (arith, rising_above (rising_tail h) k))
