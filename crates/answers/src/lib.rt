@@ -12,7 +12,7 @@ ghost use Rattle.answers.specs.Inner.Fits.{Fits};
 use board::{Board, Laxity, Slot};
 
 // A slot closed: the ticket and grade baked, and the shortfall. The jobs given up stand beside it in two lists, tickets and grades.
-#[derive(Drop)]
+#[derive(Clone, Copy)]
 pub struct Closing {
     pub slot: Slot,
     pub ticket: u32,
@@ -22,7 +22,7 @@ pub struct Closing {
 
 // What a line is answered: the number of a refusal; the depth opened; the ticket admitted and its last slot; the least laxity that can be promised, 0 for none;
 // the ticket withdrawn; the slot closed.
-#[derive(Drop)]
+#[derive(Clone, Copy)]
 pub enum Answer {
     Refused(u8),
     Opened(u32),

@@ -10,17 +10,17 @@ ghost use Rattle.board.specs.Events.{admitted_kind, baked_kind, given_up_kind, w
 
 // A number of slots counted from the present one: 01's wait, 000's laxity.
 #[repr(C)]
-#[derive(Drop)]
+#[derive(Clone, Copy)]
 pub struct Laxity(pub u32);
 
 // The number of a slot in the day book. Never compared with a laxity.
 #[repr(C)]
-#[derive(Drop)]
+#[derive(Clone, Copy)]
 pub struct Slot(pub u32);
 
 // A place of the board: a job, which 01 calls a rack, or all zero.
 #[repr(C)]
-#[derive(Drop)]
+#[derive(Clone, Copy)]
 pub struct Place {
     pub ticket: u32,
     pub admitted: Slot,
@@ -44,7 +44,7 @@ impl Place {
 
 // The jobs that can still be baked stand in the first `count` places, by rising ticket.
 #[repr(C)]
-#[derive(Drop)]
+#[derive(Clone, Copy)]
 pub struct Board {
     pub depth: u8,
     pub slot: Slot,
@@ -102,7 +102,7 @@ impl Board {
 
 // What opening answers. Every answer has 01's number of a refusal, or 0.
 #[repr(C)]
-#[derive(Drop)]
+#[derive(Clone, Copy)]
 pub struct Opened {
     pub refusal: u8,
     pub board: Board,
@@ -110,7 +110,7 @@ pub struct Opened {
 
 // What admitting answers: the job's last slot.
 #[repr(C)]
-#[derive(Drop)]
+#[derive(Clone, Copy)]
 pub struct Admitted {
     pub refusal: u8,
     pub last: Slot,
@@ -119,7 +119,7 @@ pub struct Admitted {
 
 // What closing answers: the job baked, ticket 0 for 'empty', how many jobs are given up, and the shortfall of the board before the bake.
 #[repr(C)]
-#[derive(Drop)]
+#[derive(Clone, Copy)]
 pub struct Closed {
     pub refusal: u8,
     pub ticket: u32,
@@ -131,7 +131,7 @@ pub struct Closed {
 
 // What can still be promised: the least laxity of one job more, 0 for none.
 #[repr(C)]
-#[derive(Drop)]
+#[derive(Clone, Copy)]
 pub struct Promised {
     pub refusal: u8,
     pub laxity: Laxity,
@@ -139,7 +139,7 @@ pub struct Promised {
 
 // What withdrawing answers: the grade of the job taken off.
 #[repr(C)]
-#[derive(Drop)]
+#[derive(Clone, Copy)]
 pub struct Withdrawn {
     pub refusal: u8,
     pub grade: u8,
@@ -148,7 +148,7 @@ pub struct Withdrawn {
 
 // A count for each kind of event and each grade, at kind * Tally::GRADES + grade.
 #[repr(C)]
-#[derive(Drop)]
+#[derive(Clone, Copy)]
 pub struct Tally {
     pub counts: [u32; Tally::COUNTS],
 }
@@ -176,7 +176,7 @@ impl Tally {
 
 // What the tally answers to an event.
 #[repr(C)]
-#[derive(Drop)]
+#[derive(Clone, Copy)]
 pub struct Counted {
     pub refusal: u8,
     pub tally: Tally,

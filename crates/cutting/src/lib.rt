@@ -6,7 +6,7 @@ ghost use Rattle.lines.specs.Machine.{partial_room};
 ghost use Rattle.cutting.specs.Cut.{partial_bytes, part, extend_all, CutFrom};
 
 // The bytes of a line so far, as many as there is room for: the first `len`.
-#[derive(Drop)]
+#[derive(Clone, Copy)]
 pub struct Partial {
     pub bytes: [u8; Partial::ROOM],
     pub len: usize,
@@ -18,7 +18,7 @@ impl Partial {
 }
 
 // A line cut from a chunk: its bytes so far, how far the chunk is used, and whether the line has ended.
-#[derive(Drop)]
+#[derive(Clone, Copy)]
 pub struct Cut {
     pub partial: Partial,
     pub used: usize,

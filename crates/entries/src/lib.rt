@@ -12,7 +12,7 @@ use board::{Board, Closed, Slot};
 
 // 'One entry a rack: ticket, grade, admitted slot.'
 #[repr(C)]
-#[derive(Drop)]
+#[derive(Clone, Copy)]
 pub struct Entry {
     pub ticket: u32,
     pub grade: u8,
@@ -20,7 +20,7 @@ pub struct Entry {
 }
 
 // The entries of the jobs given up, each part in an array of its own.
-#[derive(Drop)]
+#[derive(Clone, Copy)]
 struct Parts {
     tickets: [u32; Board::PLACES],
     grades: [u8; Board::PLACES],
@@ -28,7 +28,7 @@ struct Parts {
 }
 
 // What a closing answers, how many jobs it gives up, and their entries.
-#[derive(Drop)]
+#[derive(Clone, Copy)]
 struct ClosedParts {
     answer: Closed,
     count: usize,

@@ -12,21 +12,21 @@ use crate::numbers::{Field, number_at};
 use board::Board;
 
 // A grade as a line has it.
-#[derive(Drop)]
+#[derive(Clone, Copy)]
 pub enum Grade {
     Number(u32),
     Blank,
 }
 
 // A grade field's answer: the grade, or that row 14 refuses it.
-#[derive(Drop)]
+#[derive(Clone, Copy)]
 pub enum GradeField {
     Is(Grade),
     Bad,
 }
 
 // A grade field's answer, and where the field ends.
-#[derive(Drop)]
+#[derive(Clone, Copy)]
 pub struct GradeAt {
     pub grade: GradeField,
     pub end: usize,

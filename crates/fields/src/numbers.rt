@@ -12,14 +12,14 @@ use crate::COMMA;
 const GREATEST: u64 = 4_294_967_295;
 
 // A field's answer: its number, or that row 14 refuses it.
-#[derive(Drop)]
+#[derive(Clone, Copy)]
 pub enum Field {
     Number(u32),
     Bad,
 }
 
 // A field's answer, and where the field ends.
-#[derive(Drop)]
+#[derive(Clone, Copy)]
 pub struct NumberAt {
     pub number: Field,
     pub end: usize,

@@ -7,7 +7,7 @@ ghost use Rattle.hindsight.specs.Inner.Search.{Ready, ToMove, Sought, Moved};
 use matching::Jobs;
 
 // A search: whether it found a slot, the slots visited, and the holder of each slot, 0 for none and r + 1 for the job r.
-#[derive(Drop)]
+#[derive(Clone, Copy)]
 pub(crate) struct Trail {
     pub found: bool,
     pub visited: [bool; Jobs::SLOTS],

@@ -9,7 +9,7 @@ use board::Slot;
 
 // The slots in which a job can be baked, from the first to the last.
 #[repr(C)]
-#[derive(Drop)]
+#[derive(Clone, Copy)]
 pub struct Window {
     pub first: Slot,
     pub last: Slot,
@@ -17,7 +17,7 @@ pub struct Window {
 
 // The windows of the jobs, best first, in the first `count` places.
 #[repr(C)]
-#[derive(Drop)]
+#[derive(Clone, Copy)]
 pub struct Jobs {
     pub count: usize,
     pub windows: [Window; Jobs::MOST],
@@ -32,7 +32,7 @@ impl Jobs {
 }
 
 // A layout so far: the jobs that still wait, and the slot of each job, 0 for none.
-#[derive(Drop)]
+#[derive(Clone, Copy)]
 pub struct Laid {
     pub waiting: [bool; Jobs::MOST],
     pub slots: [u32; Jobs::MOST],
@@ -40,7 +40,7 @@ pub struct Laid {
 
 // What the call answers: the number of a refusal, or 0, and the slot of each job in list order, 0 for none.
 #[repr(C)]
-#[derive(Drop)]
+#[derive(Clone, Copy)]
 pub struct BestDay {
     pub refusal: u8,
     pub slots: [u32; Jobs::MOST],

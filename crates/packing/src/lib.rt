@@ -8,7 +8,7 @@ ghost use Rattle.packing.specs.Inner.Packed.{key_of, place_of, board_in, packabl
 use board::{Board, Place, Slot, Tally};
 
 // What a board holds beside its places.
-#[derive(Drop)]
+#[derive(Clone, Copy)]
 pub struct Head {
     pub depth: u8,
     pub slot: Slot,

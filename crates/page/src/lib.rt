@@ -9,7 +9,7 @@ use board::{Board, Slot};
 
 // A closing handed to the sheet: its slot, the ticket and grade baked, 0 and 0 where the slot stays empty, and how many racks are given up.
 #[repr(C)]
-#[derive(Drop)]
+#[derive(Clone, Copy)]
 pub struct Figures {
     pub slot: Slot,
     pub ticket: u32,
@@ -19,7 +19,7 @@ pub struct Figures {
 
 // A page: the closings on it are the first `count`.
 #[repr(C)]
-#[derive(Drop)]
+#[derive(Clone, Copy)]
 pub struct Page {
     pub count: usize,
     pub closings: [Figures; Page::SLOTS],
@@ -35,7 +35,7 @@ impl Page {
 
 // What the sheet answers to a closing: refusal 16 and the page as it was, or 0 and the page with the closing.
 #[repr(C)]
-#[derive(Drop)]
+#[derive(Clone, Copy)]
 pub struct HandedOver {
     pub refusal: u8,
     pub page: Page,

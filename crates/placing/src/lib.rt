@@ -14,7 +14,7 @@ use packing::Head;
 use rows::first_row;
 
 // What admitting on a board in arrays answers. The arrays are changed in place.
-#[derive(Drop)]
+#[derive(Clone, Copy)]
 pub struct AdmittedHead {
     pub refusal: u8,
     pub last: Slot,

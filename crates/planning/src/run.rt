@@ -11,7 +11,7 @@ use streams::Got;
 use worklist::Collected;
 
 // What a run did: how it ended, how many bytes it read, and how many of those that it printed the system took.
-#[derive(Drop)]
+#[derive(Clone, Copy)]
 pub struct Outcome {
     pub ended: Ended,
     pub read: usize,

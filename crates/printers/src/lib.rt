@@ -14,14 +14,14 @@ use answers::Answer;
 use page::{Figures, Page};
 
 // Which of the two is printed.
-#[derive(Drop)]
+#[derive(Clone, Copy)]
 pub enum Program {
     Board,
     Sheet,
 }
 
 // What a program knows between two answers: the number of the line that is answered next, and the sheet's page so far.
-#[derive(Drop)]
+#[derive(Clone, Copy)]
 pub struct Printer {
     pub program: Program,
     pub number: u64,
@@ -29,14 +29,14 @@ pub struct Printer {
 }
 
 // What is known after an answer, and where its print ends in the buffer.
-#[derive(Drop)]
+#[derive(Clone, Copy)]
 pub struct Printed {
     pub printer: Printer,
     pub at: usize,
 }
 
 // The number of the next line, and where an answer's lines end in the buffer.
-#[derive(Drop)]
+#[derive(Clone, Copy)]
 pub struct Numbered {
     pub number: u64,
     pub at: usize,

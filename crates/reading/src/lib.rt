@@ -14,7 +14,7 @@ use requests::{Asked, LETTER_END, read_fields};
 pub const LONGEST_LINE: usize = 40;
 
 // What a line's first field is: a letter, with whether its line is for a board that is open; or something else.
-#[derive(Drop)]
+#[derive(Clone, Copy)]
 enum Letter {
     Is(u8, bool),
     Other,

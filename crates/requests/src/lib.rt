@@ -14,7 +14,7 @@ use fields::numbers::{Field, number_at};
 pub const LETTER_END: usize = 1;
 
 // What a line asks for, or the number of the first of rows 11 to 15 that refuses it.
-#[derive(Drop)]
+#[derive(Clone, Copy)]
 pub enum Asked {
     // A depth.
     Open(u32),
@@ -29,7 +29,7 @@ pub enum Asked {
 }
 
 // What the fields of a line ask for, or row 14; and whether the line has these fields, and no other.
-#[derive(Drop)]
+#[derive(Clone, Copy)]
 pub struct Read(pub Asked, pub bool);
 
 // The field of a line that opens: row 14, or the depth.

@@ -11,7 +11,7 @@ use printers::{Printer, Program};
 use session::{Day, DayHead};
 
 // The day after a line, what the printer knows then, and where the line's output ends in the buffer.
-#[derive(Drop)]
+#[derive(Clone, Copy)]
 pub struct DayAfter {
     pub day: Day,
     pub printer: Printer,
@@ -19,7 +19,7 @@ pub struct DayAfter {
 }
 
 // Lines of a chunk taken in: the day after them, what the printer knows then, how far the chunk is used, and where the output ends.
-#[derive(Drop)]
+#[derive(Clone, Copy)]
 pub struct FedHead {
     pub day: DayHead,
     pub printer: Printer,

@@ -18,7 +18,7 @@ use printers::{Printer, Program};
 use session::{Day, DayHead};
 
 // What a program holds between two bytes: the day, what its printer knows, and the bytes so far of the line that is being read.
-#[derive(Drop)]
+#[derive(Clone, Copy)]
 pub struct State {
     pub day: Day,
     pub printer: Printer,
@@ -26,7 +26,7 @@ pub struct State {
 }
 
 // A part of a chunk taken in: the state after it, how far the chunk is used, and where the output ends.
-#[derive(Drop)]
+#[derive(Clone, Copy)]
 pub struct Fed {
     pub state: State,
     pub used: usize,

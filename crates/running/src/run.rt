@@ -14,7 +14,7 @@ use status::Ended;
 use streams::Got;
 
 // What a run did: how it ended, how many bytes it read, and how many of those that it printed the system took.
-#[derive(Drop)]
+#[derive(Clone, Copy)]
 pub struct Outcome {
     pub ended: Ended,
     pub read: u64,
@@ -27,7 +27,7 @@ impl Outcome {
 }
 
 // A chunk taken in: the state after it, how many of the bytes that it prints the system took, and whether these are all.
-#[derive(Drop)]
+#[derive(Clone, Copy)]
 pub struct Taken {
     pub state: State,
     pub written: u64,

@@ -19,7 +19,7 @@ mod tight;
 
 // The job that a slot bakes: its ticket, grade and last slot, all 0 where no job is seen; the shortfall of all jobs seen; and the counts by which both
 // were found.
-#[derive(Drop)]
+#[derive(Clone, Copy)]
 pub struct Baked {
     pub ticket: u32,
     pub grade: u8,

@@ -14,7 +14,7 @@ use packing::Head;
 use requests::Asked;
 
 // The board, if one is open, and the tally.
-#[derive(Drop)]
+#[derive(Clone, Copy)]
 pub struct Day {
     pub opened: bool,
     pub board: Board,
@@ -22,14 +22,14 @@ pub struct Day {
 }
 
 // A day whose jobs and counts lie in arrays: what it holds beside them.
-#[derive(Drop)]
+#[derive(Clone, Copy)]
 pub struct DayHead {
     pub opened: bool,
     pub head: Head,
 }
 
 // The day after a line, what the line is answered, and how many jobs given up stand in the lists.
-#[derive(Drop)]
+#[derive(Clone, Copy)]
 pub struct Stepped {
     pub day: DayHead,
     pub answer: Answer,

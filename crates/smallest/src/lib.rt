@@ -12,7 +12,7 @@ ghost use Rattle.smallest.specs.Inner.Lowest.{LowestOf};
 use board::{Board, Laxity};
 
 // The smallest excess found so far, and the least laxity that has it; both 0 where there are no jobs.
-#[derive(Drop)]
+#[derive(Clone, Copy)]
 pub struct Best {
     pub excess: i32,
     pub laxity: Laxity,

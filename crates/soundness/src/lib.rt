@@ -12,7 +12,7 @@ use board::{Board, Place, Slot};
 
 // What a walk has seen of the jobs so far: whether all is well, the last job's ticket and admitted slot, and how many
 // jobs in a row, the last one included, share that slot.
-#[derive(Drop)]
+#[derive(Clone, Copy)]
 struct Seen {
     well: bool,
     ticket: u32,

@@ -5,7 +5,7 @@ ghost use Rattle.std.specs.Prelude.{◌≡◌};
 ghost use Rattle.status.specs.Status.{status};
 
 // How a run ended: the end of input was read and all that is printed was written, a read failed, a write failed, or the input is too long.
-#[derive(Drop)]
+#[derive(Clone, Copy)]
 pub enum Ended {
     Whole,
     ReadFailed,

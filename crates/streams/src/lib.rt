@@ -9,7 +9,7 @@ ghost use Rattle.streams.specs.Got.{Within};
 const TRIES: u64 = 1_000_000_000_000;
 
 // What a read gave: so many bytes at the start of the buffer, the end of input, or a failure, which errno names.
-#[derive(Drop)]
+#[derive(Clone, Copy)]
 pub enum Got {
     Bytes(usize),
     End,

@@ -8,7 +8,7 @@ ghost use Rattle.page.specs.Pages.{page_of};
 use page::Page;
 
 // How many closings of a page baked a rack, and how many racks they gave up.
-#[derive(Drop)]
+#[derive(Clone, Copy)]
 pub struct Totals {
     pub baked: u64,
     pub listed: u64,

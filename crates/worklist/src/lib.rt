@@ -14,21 +14,21 @@ use fields::numbers::Field;
 use matching::{Jobs, Window};
 
 // A line read: the number of its refusal, or 0, and its window.
-#[derive(Drop)]
+#[derive(Clone, Copy)]
 pub struct WindowRead {
     pub number: u8,
     pub window: Window,
 }
 
 // A line that is refused, counted from 1, and its number; number 0 for none.
-#[derive(Drop)]
+#[derive(Clone, Copy)]
 pub struct Refused {
     pub line: u64,
     pub number: u8,
 }
 
 // The first line that is refused, and the jobs of the lines before it.
-#[derive(Drop)]
+#[derive(Clone, Copy)]
 pub struct Collected {
     pub refused: Refused,
     pub jobs: Jobs,
