@@ -15,7 +15,7 @@ use Rattle.claims.specs.Calls.{Call}
 use Rattle.claims.specs.Stretches.{Stretch, book_of, our_plan, stretches_of}
 
 -- What rivals are tried on at a depth: every grade below 2^D, and some set of beginnings. 01's 'every such book' may be read as every beginning or as the
--- list's own, and 02's 'may begin with any such racks' as any jobs or as `such-racks`: the claim below is for any set that has the stretch's own beginning.
+-- list's own, and 02's 'may begin with any such racks' as any jobs or as `such_racks`: the claim below is for any set that has the stretch's own beginning.
 unfoldable pub setting : (depth : ℕ) → (Beginning → Bool) → Setting
 setting d begins = record { depth = d; allowed = λ g. true; begins = begins }
 

@@ -45,7 +45,7 @@ pub slot_baked : (p : Schedule) (now : ℕ) (r : Job) (j : ℕ) → now ≤ j �
 unfolding bakes_job laxity
 slot_baked p now r j a b e = slot_gives p now _ r.ticket j a (omega arith) e
 
--- what `bakes-job` says of a plan: some slot is given the job
+-- what `bakes_job` says of a plan: some slot is given the job
 pub bakes_job_is : {now : ℕ} {A : List Job} {p : Schedule} → Waiting now A → PlanFrom now A p → (r : Job) → Memᴰ r A
     → (bakes_job p now r ≡ true → (s : ℕ) × (p s ≡ r.ticket)) × ((s : ℕ) → p s ≡ r.ticket → bakes_job p now r ≡ true)
 bakes_job_is {now} {A} {p} W P r m = (λ h. let j = baked_slot p now r h in (j.0, j.3), back)
