@@ -6,13 +6,13 @@ use std::path::Path;
 
 /// The imports of a module of cases.
 const HEADER: &str = "\
-use mathlib.Core.Path.{_≡_, refl}
+use mathlib.Core.Path.{◌≡◌, refl}
 use mathlib.Core.Bool.{Bool, true, false}
-use mathlib.Core.List.{List, [], _∷_}
+use mathlib.Core.List.{List, [], ◌∷◌}
 use Prim.Native.Nat.{ℕ}
-use Rattle·lists.specs.Select.{every}
-use Rattle·claims.specs.Calls.{admit, close, withdraw}
-use Rattle·cases·proofs.proofs.Right.{place, board, sound-right, board-right, withdraw-right, stretch, book-right, day-right, sheet-right, figures, page-right}
+use Rattle.lists.specs.Select.{every}
+use Rattle.claims.specs.Calls.{admit, close, withdraw}
+use Rattle.cases.proofs.Right.{place, board, sound_right, board_right, withdraw_right, stretch, book_right, day_right, sheet_right, figures, page_right}
 ";
 
 /// A module that holds if every case does.
@@ -20,7 +20,7 @@ pub fn module(cases: &[String], unfolding: &str) -> String {
     let cases = list(cases);
     format!(
         "{HEADER}\ncases : List Bool\ncases = {cases}\n\n\
-         all-right : every (λ b. b) cases ≡ true\nunfolding cases {unfolding}\nall-right = refl\n"
+         all_right : every (λ b. b) cases ≡ true\nunfolding cases {unfolding}\nall_right = refl\n"
     )
 }
 
@@ -35,7 +35,7 @@ pub fn list<T: ToString>(items: &[T]) -> String {
 }
 
 /// The library's definitions that a case computes with.
-const LIBRARY: [&str; 2] = ["mathlib.Core.List.flatten", "mathlib.Core.List.flatMap"];
+const LIBRARY: [&str; 2] = ["mathlib.Core.List.flatten", "mathlib.Core.List.flat_map"];
 
 /// The definitions that a case computes with, by their whole names: those of the
 /// library, all that the crates' specs/ mark `unfoldable`, and those of `cases`.
@@ -53,11 +53,11 @@ pub fn unfoldable_names(crates: &Path) -> io::Result<String> {
         let folder = crates.join(name).join("specs");
         for module in modules(&folder)? {
             let text = fs::read_to_string(folder.join(format!("{module}.antt")))?;
-            names.extend(marked(&text).map(|word| format!("Rattle·{name}.specs.{module}.{word}")));
+            names.extend(marked(&text).map(|word| format!("Rattle.{name}.specs.{module}.{word}")));
         }
     }
     let right = fs::read_to_string(crates.join("cases").join("proofs").join("Right.antt"))?;
-    names.extend(marked(&right).map(|word| format!("Rattle·cases·proofs.proofs.Right.{word}")));
+    names.extend(marked(&right).map(|word| format!("Rattle.cases.proofs.Right.{word}")));
     Ok(names.join(" "))
 }
 

@@ -43,9 +43,9 @@ fn day_of_closings(count: usize) -> Vec<u8> {
 }
 
 fn case(input: &[u8]) -> String {
-    format!("day-right {} {}", list(input), list(&run_bytes(input)))
+    format!("day_right {} {}", list(input), list(&run_bytes(input)))
 }
 
 fn sheet_case(input: &[u8]) -> String {
-    format!("sheet-right {} {}", list(input), list(&sheet(input)))
+    format!("sheet_right {} {}", list(input), list(&sheet(input)))
 }

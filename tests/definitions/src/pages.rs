@@ -50,7 +50,7 @@ fn case(before: &Page, closing: Figures) -> String {
     let held: Vec<String> = before.closings().iter().map(figures).collect();
     let left: Vec<String> = after.closings().iter().map(numbers).collect();
     format!(
-        "page-right {} {} {number} {} {}",
+        "page_right {} {} {number} {} {}",
         list(&held),
         figures(&closing),
         list(&left),

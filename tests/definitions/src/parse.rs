@@ -43,7 +43,7 @@ fn soundness(line: &str) -> String {
     let head = numbers(pieces[0]);
     let sound = head[0] == 1;
     format!(
-        "sound-right (board {} {} {} {} {}) {sound}",
+        "sound_right (board {} {} {} {} {}) {sound}",
         head[1],
         head[2],
         head[3],
@@ -65,7 +65,7 @@ fn board(line: &str) -> String {
     let highest = numbers(asked[0])[2];
     let promised = numbers(promised);
     format!(
-        "board-right (board {} {} {}) {} {} {} {} {}",
+        "board_right (board {} {} {}) {} {} {} {} {}",
         arguments(asked[0]),
         asked.len() - 1,
         places(&asked[1..]),
@@ -90,7 +90,7 @@ fn withdrawal(line: &str) -> String {
     let asked: Vec<&str> = asked.split(';').collect();
     let told: Vec<&str> = told.split(';').collect();
     format!(
-        "withdraw-right (board {} {} {}) {} {} {}",
+        "withdraw_right (board {} {} {}) {} {} {}",
         arguments(asked[0]),
         asked.len() - 1,
         places(&asked[1..]),
@@ -118,7 +118,7 @@ fn calls(line: &str) -> String {
         .collect();
     assert_eq!(calls.len(), answers.len(), "an answer a call");
     format!(
-        "book-right {} {} {} {}",
+        "book_right {} {} {} {}",
         arguments(asked[0]),
         list(&calls),
         list(&answers),
