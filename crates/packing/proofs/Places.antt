@@ -31,6 +31,7 @@ module _ (K T A : List ℕ) where
 
   pub places_at : (n i : ℕ) → i < n → (d : Place) → get_or (places_in n K T A) i d ≡ place_in K T A i
   unfolding places_in
+  places_at zero i h d = elim h [ ]
   places_at (suc n) i h d =
       ⊎_elim
       (λ (e : n ≤ i).
