@@ -1,4 +1,3 @@
---
 use mathlib.Core.Path.{refl}
 use Rattle.matching.specs.Windows.{is_window as is_window_of}
 use Rattle.hindsight.proofs.is_window.Goals as goal

@@ -1,4 +1,3 @@
---
 use mathlib.Core.Path.{sym, ap, ap₂, ◌∙◌}
 use mathlib.Core.Bool.{◌||◌}
 use mathlib.Core.Logic.{⊎_elim}

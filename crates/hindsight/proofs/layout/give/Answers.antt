@@ -1,4 +1,3 @@
---
 use mathlib.Core.Path.{sym}
 use borrow.Author.Tests.{eq-eqb, ne_eqb}
 use Rattle.lists.proofs.Tests.{cond_true, cond_false}

@@ -1,4 +1,3 @@
---
 use mathlib.Core.Path.{sym, ap₂, ◌∙◌}
 use mathlib.Core.Bool.{◌&&◌}
 use Rattle.lists.proofs.Tests.{cond_true, cond_false}
