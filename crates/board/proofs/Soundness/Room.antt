@@ -1,5 +1,4 @@
 -- Room on a board, from the facts of its soundness: with fewer jobs of its slot than a slot may take it is not full.
-use mathlib.Core.Path.{◌≡◌}
 use mathlib.Core.List.{Memᴰ}
 use Prim.Native.Nat.{ℕ, suc, ◌-◌, ◌≤◌, ◌<◌}
 use native.Mathlib.Omega.{arith}
