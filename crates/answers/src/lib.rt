@@ -45,8 +45,8 @@ fn print_at(out: &mut [u8], at: usize, letter: u8, numbers: &[u64]) -> usize
 
 // Prints a line for each job given up; where the last one ends.
 fn print_given_up(slot: Slot, tickets: &[u32], grades: &[u8], out: &mut [u8], at: usize) -> usize
-    requires grades_len { length grades.now ≡ length tickets.now }
-    requires room_in_bounds { at + length tickets.now * room ≤ length out.old }
+    requires as_many { length grades.now ≡ length tickets.now }
+    requires has_room { at + length tickets.now * room ≤ length out.old }
     ensures { let lines = printed_given_up slot.0 (jobs_of tickets.now grades.now) in
         PutWithin (length tickets.now * room) lines out.old at result out.new }
 {

@@ -3,3 +3,4 @@ pub mod Apart
 pub mod Together
 pub mod HeldCount
 pub mod FreePlace
+pub mod Room

@@ -10,7 +10,7 @@ use Rattle.board.specs.Held.{slot_of, held, in_slot}
 use Rattle.board.specs.Sound.{sound}
 use Rattle.board.specs.Admit.{admit_number, with_job}
 use Rattle.board.proofs.Soundness.Apart.{facts}
-use Rattle.board.proofs.Soundness.FreePlace.{room}
+use Rattle.board.proofs.Soundness.Room.{room}
 use Rattle.board.proofs.Calls.Rows.{Admits, admits}
 use Rattle.board.proofs.Calls.HeldAfter.{held_with_job}
 use Rattle.board.proofs.Calls.SoundAfter.{admit_number_sound}

@@ -42,7 +42,7 @@ to_right_last i bs x =
 -- where there are no bytes, a space
 to_right_space : (i : ℕ) → to_right (suc i) [] ≡ to_right i [] ++ (space ∷ [])
 unfolding to_right
-to_right_space i = rw (append-nil, append-nil) (sym (rw add-one at (replicate-append-replicate i 1 space)))
+to_right_space i = rw (append-nil (replicate (suc i) space), append-nil (replicate i space)) (sym (rw add-one at (replicate-append-replicate i 1 space)))
 
 -- once the digits have begun: those of a number that is not 0, and none of 0
 some_digits : (n : ℕ) → 1 ≤ n → digits_left true n ≡ decimal n

@@ -4,7 +4,7 @@ use mathlib.Core.Path.{◌≡◌, sym, ap, ◌∙◌}
 use mathlib.Core.Logic.{◌⊎◌, inl, inr}
 use Prim.Native.Nat.{ℕ, ◌≤◌, ◌<◌, min}
 use native.Mathlib.Omega.{arith}
-use lib.ListN.{length, length-map, take}
+use lib.ListN.{length, take}
 use lib.Seq.{take_all}
 use mir.Val.{Val}
 use denote.Laws.{Is}
@@ -18,7 +18,7 @@ use Rattle.cutting.specs.contracts.Partial.{the_type}
 
 pub partial_length : (h : Partial) (vs : List Val) → Is (row the_type) h vs → length h.bytes ≡ partial_room
 unfolding partial_room longest_line
-partial_length h vs g = sym (length-map h.bytes _) ∙ g.1.1.0.1.0.1
+partial_length h vs g = g.1.1.0.1.0.1
 
 -- no more are taken than there are
 pub take_lesser : (n : ℕ) (l : Bytes) (m : ℕ) → length l ≡ m → take (min n m) l ≡ take n l

@@ -17,8 +17,8 @@ fn has_come(d: Jobs, waiting: [bool; Jobs::MOST], slot: u32, i: usize) -> bool
 
 // Whether there is no best job so far, or the job's last slot is less.
 fn beats(d: Jobs, i: usize, best: usize) -> bool
-    requires count_le_most_jobs { (d.count ≤ most_jobs) × (i < d.count) }
-    requires fact { (best ≡ no_job) ⊎ (best < d.count) }
+    requires in_list { (d.count ≤ most_jobs) × (i < d.count) }
+    requires best_in_list { (best ≡ no_job) ⊎ (best < d.count) }
     ensures { result ≡ (eqb best no_job || ltb (last_of (windows_of d) i) (last_of (windows_of d) best)) }
 {
     if best == Jobs::MOST {
@@ -31,8 +31,8 @@ fn beats(d: Jobs, i: usize, best: usize) -> bool
 
 // The sooner of the best job so far and one more.
 fn sooner(d: Jobs, waiting: [bool; Jobs::MOST], slot: u32, i: usize, best: usize) -> usize
-    requires count_le_most_jobs { (d.count ≤ most_jobs) × (i < d.count) }
-    requires fact { (best ≡ no_job) ⊎ (best < d.count) }
+    requires in_list { (d.count ≤ most_jobs) × (i < d.count) }
+    requires best_in_list { (best ≡ no_job) ⊎ (best < d.count) }
     ensures { result ≡ sooner_of (windows_of d) waiting slot i best }
 {
     if has_come(d, waiting, slot, i) & beats(d, i, best) {

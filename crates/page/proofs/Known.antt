@@ -1,7 +1,7 @@
 -- What holding a page tells: it has all its places.
-use mathlib.Core.Path.{◌≡◌, sym, ◌∙◌}
+use mathlib.Core.Path.{◌≡◌}
 use mathlib.Core.List.{List}
-use lib.ListN.{length, length-map}
+use lib.ListN.{length}
 use mir.Val.{Val}
 use denote.Laws.{Is}
 use denote.Struct.Declared.{row}
@@ -11,4 +11,4 @@ use Rattle.page.specs.contracts.Page.{the_type}
 
 pub all_closings : (p : Page) (vs : List Val) → Is (row the_type) p vs → length p.closings ≡ page_slots
 unfolding page_slots
-all_closings p vs g = sym (length-map p.closings _) ∙ g.1.1.1.0.1.0.1
+all_closings p vs g = g.1.1.1.0.1.0.1

@@ -1,4 +1,4 @@
-// The program of the best day in hindsight as one call, for a `main` in C: a program in Rattle has no exit status of its own.
+// The program of the best day in hindsight as one call, for a `main`.
 #![tactic(auto)]
 
 ghost use Rattle.planning.specs.Status.{Reported};
@@ -6,12 +6,13 @@ ghost use Rattle.planning.specs.Status.{Reported};
 pub mod plan;
 pub mod run;
 
+use std::rt::Clock;
+
 // Reads a list of racks on standard input and writes their slots on standard output; the exit status.
-#[unsafe(no_mangle)]
-pub extern "C" fn hindsight_run() -> u8
+pub fn hindsight_run<R: Input + Print + Eprint + Clock>(rt: &R) -> u8
     ensures { Reported result }
 {
-    let outcome = run::run();
+    let outcome = run::run(rt);
     let ended = outcome.ended;
     status::status_of(ended)
 }

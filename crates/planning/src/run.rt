@@ -5,10 +5,14 @@ ghost use Rattle.planning.specs.Runs.{Ran, Answered};
 ghost use Rattle.status.specs.declared.Ended.TheVariants.{ReadFailed, WriteFailed};
 
 use crate::plan;
-use libc::{STDIN_FILENO, STDOUT_FILENO};
 use status::Ended;
+use std::rt::Clock;
 use streams::Got;
+use streams::failure::Failure;
 use worklist::Collected;
+
+// Bytes of a buffer.
+const BUFFER: usize = 65_536;
 
 // What a run did: how it ended, how many bytes it read, and how many of those that it printed the system took.
 #[derive(Clone, Copy)]
@@ -19,10 +23,10 @@ pub struct Outcome {
 }
 
 // A read has failed, which is said.
-fn unread(read: usize) -> Outcome
+fn unread<R: Eprint>(rt: &R, read: usize, failure: Failure) -> Outcome
     ensures { result ≡ record { ended = ReadFailed; read = read; written = 0 } }
 {
-    os::fail(b"hindsight: cannot read standard input");
+    let _ = eprintln!(rt; "hindsight: cannot read standard input: {failure}");
     Outcome {
         ended: Ended::ReadFailed,
         read,
@@ -31,10 +35,10 @@ fn unread(read: usize) -> Outcome
 }
 
 // A write has failed, which is said.
-fn unwritten(read: usize, written: usize) -> Outcome
+fn unwritten<R: Eprint>(rt: &R, read: usize, written: usize, failure: Failure) -> Outcome
     ensures { result ≡ record { ended = WriteFailed; read = read; written = written } }
 {
-    os::fail(b"hindsight: cannot write standard output");
+    let _ = eprintln!(rt; "hindsight: cannot write standard output: {failure}");
     Outcome {
         ended: Ended::WriteFailed,
         read,
@@ -43,14 +47,19 @@ fn unwritten(read: usize, written: usize) -> Outcome
 }
 
 // Writes what the bytes read give.
-fn finish(input: &[u8], out: &mut [u8]) -> Outcome
+fn finish<R: Print + Eprint + Clock>(
+    rt: &R,
+    input: &[u8],
+    out: &mut [u8],
+    failure: &mut Failure,
+) -> Outcome
     requires { plan_room ≤ length out.old }
     ensures { Answered input.now result }
 {
     let end = plan::print_list(input, out);
-    let put = streams::write_all(STDOUT_FILENO, &out[..end]);
+    let put = streams::write_all(rt, &out[..end], failure);
     if put < end {
-        return unwritten(input.len(), put);
+        return unwritten(rt, input.len(), put, *failure);
     }
     Outcome {
         ended: Ended::Whole,
@@ -60,30 +69,38 @@ fn finish(input: &[u8], out: &mut [u8]) -> Outcome
 }
 
 // A read gave no bytes: it is the end of input, or it has failed, and then nothing is printed.
-fn stop(got: Got, input: &[u8], out: &mut [u8]) -> Outcome
+fn stop<R: Print + Eprint + Clock>(
+    rt: &R,
+    got: Got,
+    input: &[u8],
+    out: &mut [u8],
+    failure: &mut Failure,
+) -> Outcome
     requires { plan_room ≤ length out.old }
     ensures { Answered input.now result }
 {
     let Got::End = got else {
-        return unread(input.len());
+        return unread(rt, input.len(), *failure);
     };
-    finish(input, out)
+    finish(rt, input, out, failure)
 }
 
 // Reads standard input to its end, or as many bytes as settle what is printed, and writes that. Where a read or a write fails it goes no further.
-pub fn run() -> Outcome
+pub fn run<R: Input + Print + Eprint + Clock>(rt: &R) -> Outcome
     ensures { Ran result }
 {
-    let mut input = io::large_buffer();
-    let mut out = io::large_buffer();
+    let mut reader = rt.reader();
+    let mut failure = Failure::NONE;
+    let mut input = [0u8; BUFFER];
+    let mut out = [0u8; BUFFER];
     let most = Collected::MOST_READ;
     let mut n: usize = 0;
     while n < most {
-        let got = streams::read_some(STDIN_FILENO, &mut input[n..most]);
+        let got = streams::read_some(rt, &mut reader, &mut input[n..most], &mut failure);
         let Got::Bytes(more) = got else {
-            return stop(got, &input[..n], &mut out);
+            return stop(rt, got, &input[..n], &mut out, &mut failure);
         };
         n += more;
     }
-    finish(&input[..n], &mut out)
+    finish(rt, &input[..n], &mut out, &mut failure)
 }

@@ -7,8 +7,6 @@ use Prim.Native.Nat.{ℕ, suc, ◌≤◌, ◌<◌}
 use lib.ListN.{length, drop}
 use lib.Dec.{eqb}
 use borrow.Author.Tests.{lt-ltb, le-ltb}
-use types.Run.{OneOf, miss}
-use denote.Enum.Declared.{tag_of}
 use Rattle.lists.proofs.Tests.{cond_true}
 use Rattle.board.specs.Rows.{Row, ◌if◌, first_given}
 use Rattle.board.proofs.Calls.Rows.{row_skipped}
@@ -23,16 +21,12 @@ use Rattle.reading.specs.Answers.{line_result}
 use Rattle.fields.specs.Results.{result}
 use Rattle.requests.specs.Inner.Parts.{fields_read, read_result, form_read, after_letter}
 use Rattle.reading.specs.Inner.Parts.{letter_result, letter_read}
-use Rattle.requests.specs.contracts.Asked.{the_type}
 use Rattle.requests.proofs.Results.{row_given, row_not_given}
 use Rattle.reading.proofs.Letters.{other_says, Known, letter_says}
 
--- the answer is a variant before `Refused`
-abbrev asking : List ℕ
-asking = 0 ∷ 1 ∷ 2 ∷ 3 ∷ 4 ∷ []
-
+-- the answer asks for something: it refuses nothing
 abbrev pub AsksFor : Asked → Type 0
-AsksFor a = OneOf asking (tag_of the_type a)
+AsksFor a = (n : ℕ) → a ≡ Refused n → ⊥
 
 asks : (a : Asked) → AsksFor a → (q : Request) × (asked_result a ≡ (0, some q))
 unfolding asked_result
@@ -41,7 +35,7 @@ asks (Admit t w g) h = (_, refl)
 asks Close h = (_, refl)
 asks Promise h = (_, refl)
 asks (Withdraw t) h = (_, refl)
-asks (Refused n) h = absurd (miss asking 5 tt h)
+asks (Refused n) h = absurd (h n refl)
 
 -- a line is out of turn where one of the two holds: it is for a board that is open, one is open
 turn_test : (f o : Bool) → out_of_turn f o ≡ not (beq o f)

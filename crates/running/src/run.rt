@@ -8,10 +8,14 @@ ghost use Rattle.status.specs.declared.Ended.TheVariants.{ReadFailed, WriteFaile
 
 use crate::feed;
 use crate::feed::State;
-use libc::{STDERR_FILENO, STDIN_FILENO, STDOUT_FILENO};
 use printers::Program;
 use status::Ended;
+use std::rt::Clock;
 use streams::Got;
+use streams::failure::Failure;
+
+// Bytes of a buffer, and of a chunk at the most.
+const BUFFER: usize = 65_536;
 
 // What a run did: how it ended, how many bytes it read, and how many of those that it printed the system took.
 #[derive(Clone, Copy)]
@@ -35,7 +39,13 @@ pub struct Taken {
 }
 
 // Takes in a whole chunk, and writes what it prints whenever the buffer has no room for a line more, and at its end.
-fn take_in(d: State, chunk: &[u8], out: &mut [u8]) -> Taken
+fn take_in<R: Print + Clock>(
+    rt: &R,
+    d: State,
+    chunk: &[u8],
+    out: &mut [u8],
+    failure: &mut Failure,
+) -> Taken
     requires good_day { GoodDay d.day }
     requires len_le_partial_room { (d.partial.len ≤ partial_room) × (d.printer.number + length chunk.now < 2 ^ 63) }
     requires chunk_len_bound { (length chunk.now ≤ buffer_length) × (length out.old ≡ buffer_length) }
@@ -49,7 +59,7 @@ fn take_in(d: State, chunk: &[u8], out: &mut [u8]) -> Taken
         state = f.state;
         used = f.used;
         let n = f.at;
-        let put = streams::write_all(STDOUT_FILENO, &out[..n]);
+        let put = streams::write_all(rt, &out[..n], failure);
         written += put as u64;
         if put < n {
             return Taken {
@@ -67,13 +77,19 @@ fn take_in(d: State, chunk: &[u8], out: &mut [u8]) -> Taken
 }
 
 // A write has failed, which is said.
-fn unwritten(program: Program, read: u64, written: u64) -> Outcome
+fn unwritten<R: Eprint>(
+    rt: &R,
+    program: Program,
+    read: u64,
+    written: u64,
+    failure: Failure,
+) -> Outcome
     ensures { result ≡ record { ended = WriteFailed; read = read; written = written } }
 {
-    match program {
-        Program::Board => os::fail(b"oven: cannot write standard output"),
-        Program::Sheet => os::fail(b"sheet: cannot write standard output"),
-    }
+    let _ = match program {
+        Program::Board => eprintln!(rt; "oven: cannot write standard output: {failure}"),
+        Program::Sheet => eprintln!(rt; "sheet: cannot write standard output: {failure}"),
+    };
     Outcome {
         ended: Ended::WriteFailed,
         read,
@@ -82,18 +98,12 @@ fn unwritten(program: Program, read: u64, written: u64) -> Outcome
 }
 
 // More bytes than are read, which is said.
-fn too_long(program: Program, read: u64, written: u64) -> Outcome
+fn too_long<R: Eprint>(rt: &R, program: Program, read: u64, written: u64) -> Outcome
     ensures { result ≡ record { ended = TooLong; read = read; written = written } }
 {
-    match program {
-        Program::Board => streams::write_all(
-            STDERR_FILENO,
-            b"oven: more than 281474976710656 bytes of input\n",
-        ),
-        Program::Sheet => streams::write_all(
-            STDERR_FILENO,
-            b"sheet: more than 281474976710656 bytes of input\n",
-        ),
+    let _ = match program {
+        Program::Board => eprintln!(rt; "oven: more than 281474976710656 bytes of input"),
+        Program::Sheet => eprintln!(rt; "sheet: more than 281474976710656 bytes of input"),
     };
     Outcome {
         ended: Ended::TooLong,
@@ -103,7 +113,14 @@ fn too_long(program: Program, read: u64, written: u64) -> Outcome
 }
 
 // The end of input: writes what is left to print.
-fn finish(state: State, out: &mut [u8], read: u64, written: u64) -> Outcome
+fn finish<R: Print + Eprint + Clock>(
+    rt: &R,
+    state: State,
+    out: &mut [u8],
+    read: u64,
+    written: u64,
+    failure: &mut Failure,
+) -> Outcome
     requires good_day { GoodDay state.day }
     requires len_le_partial_room { (state.partial.len ≤ partial_room) × (state.printer.number < 2 ^ 63) × (length out.old ≡ buffer_length) × (written + buffer_length < 2 ^ 64) }
     ensures { Stopped state read written result }
@@ -111,10 +128,10 @@ fn finish(state: State, out: &mut [u8], read: u64, written: u64) -> Outcome
     let printer = state.printer;
     let program = printer.program;
     let end = feed::finish(state, out, 0);
-    let put = streams::write_all(STDOUT_FILENO, &out[..end]);
+    let put = streams::write_all(rt, &out[..end], failure);
     let written = written + put as u64;
     if put < end {
-        return unwritten(program, read, written);
+        return unwritten(rt, program, read, written, *failure);
     }
     Outcome {
         ended: Ended::Whole,
@@ -124,13 +141,13 @@ fn finish(state: State, out: &mut [u8], read: u64, written: u64) -> Outcome
 }
 
 // A read has failed, which is said.
-fn unread(program: Program, read: u64, written: u64) -> Outcome
+fn unread<R: Eprint>(rt: &R, program: Program, read: u64, written: u64, failure: Failure) -> Outcome
     ensures { result ≡ record { ended = ReadFailed; read = read; written = written } }
 {
-    match program {
-        Program::Board => os::fail(b"oven: cannot read standard input"),
-        Program::Sheet => os::fail(b"sheet: cannot read standard input"),
-    }
+    let _ = match program {
+        Program::Board => eprintln!(rt; "oven: cannot read standard input: {failure}"),
+        Program::Sheet => eprintln!(rt; "sheet: cannot read standard input: {failure}"),
+    };
     Outcome {
         ended: Ended::ReadFailed,
         read,
@@ -139,7 +156,15 @@ fn unread(program: Program, read: u64, written: u64) -> Outcome
 }
 
 // A read gave no bytes: it is the end of input, or it has failed, and then neither the line that has begun nor what comes at the end is printed.
-fn stop(got: Got, state: State, out: &mut [u8], read: u64, written: u64) -> Outcome
+fn stop<R: Print + Eprint + Clock>(
+    rt: &R,
+    got: Got,
+    state: State,
+    out: &mut [u8],
+    read: u64,
+    written: u64,
+    failure: &mut Failure,
+) -> Outcome
     requires good_day { GoodDay state.day }
     requires len_le_partial_room { (state.partial.len ≤ partial_room) × (state.printer.number < 2 ^ 63) × (length out.old ≡ buffer_length) × (written + buffer_length < 2 ^ 64) }
     ensures { Stopped state read written result }
@@ -147,33 +172,35 @@ fn stop(got: Got, state: State, out: &mut [u8], read: u64, written: u64) -> Outc
     let Got::End = got else {
         let printer = state.printer;
         let program = printer.program;
-        return unread(program, read, written);
+        return unread(rt, program, read, written, *failure);
     };
-    finish(state, out, read, written)
+    finish(rt, state, out, read, written, failure)
 }
 
 // Reads standard input to its end and writes what is printed, for the bytes of each read before the next read. Where a read or a write fails it goes
 // no further.
-pub fn run(program: Program) -> Outcome
+pub fn run<R: Input + Print + Eprint + Clock>(rt: &R, program: Program) -> Outcome
     ensures { Ran (program_of program) result }
 {
     let mut state = feed::new_state(program);
-    let mut chunk = io::large_buffer();
-    let mut out = io::large_buffer();
+    let mut input = rt.reader();
+    let mut failure = Failure::NONE;
+    let mut chunk = [0u8; BUFFER];
+    let mut out = [0u8; BUFFER];
     let mut read: u64 = 0;
     let mut written: u64 = 0;
     while read < Outcome::MOST_READ {
-        let got = streams::read_some(STDIN_FILENO, &mut chunk);
+        let got = streams::read_some(rt, &mut input, &mut chunk, &mut failure);
         let Got::Bytes(n) = got else {
-            return stop(got, state, &mut out, read, written);
+            return stop(rt, got, state, &mut out, read, written, &mut failure);
         };
-        let t = take_in(state, &chunk[..n], &mut out);
+        let t = take_in(rt, state, &chunk[..n], &mut out, &mut failure);
         state = t.state;
         read += n as u64;
         written += t.written;
         if !t.whole {
-            return unwritten(program, read, written);
+            return unwritten(rt, program, read, written, failure);
         }
     }
-    too_long(program, read, written)
+    too_long(rt, program, read, written)
 }

@@ -51,8 +51,8 @@ fn zero_next(counts: &[u16; CELLS], start: u8, left: u8) -> bool
 // The start with its next bit: 0 where a job of the tight set has it, otherwise 1.
 fn next_start(counts: &[u16; CELLS], start: u8, left: u8) -> u8
     requires { Start deepest start left × (1 ≤ left) }
-    ensures next_start { NextStart counts.now start left result }
-    ensures left_bound { (result + 1) * 2 ^ (left - 1) ≤ (start + 1) * 2 ^ left }
+    ensures next_bit { NextStart counts.now start left result }
+    ensures within { (result + 1) * 2 ^ (left - 1) ≤ (start + 1) * 2 ^ left }
 {
     if zero_next(counts, start, left) {
         return start * 2;

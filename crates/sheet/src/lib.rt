@@ -39,6 +39,6 @@ pub fn print_page(p: Page, out: &mut [u8], at: usize) -> usize
 
 // The constants are the numbers of the definitions.
 fn limits()
-    ensures value { COLUMNS ≡ line_columns }
-    ensures page_length_value { PAGE_LENGTH ≡ page_length }
+    ensures columns { COLUMNS ≡ line_columns }
+    ensures page_length { PAGE_LENGTH ≡ page_length }
 {}

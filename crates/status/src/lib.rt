@@ -14,6 +14,7 @@ pub enum Ended {
 }
 
 // The exit status of a run that ended so.
+#[tactic(auto, unfolding(crate::specs::Status::status))]
 pub fn status_of(ended: Ended) -> u8
     ensures { result ≡ status ended }
 {

@@ -16,8 +16,8 @@ pub struct Totals {
 
 // The totals of the page.
 pub fn totals_of(p: Page) -> Totals
-    ensures baked_value { result.baked ≡ number_baked (page_of p) }
-    ensures listed_value { result.listed ≡ number_given_up (page_of p) }
+    ensures baked { result.baked ≡ number_baked (page_of p) }
+    ensures given_up { result.listed ≡ number_given_up (page_of p) }
 {
     let count = page::closing_count(p);
     let mut baked: u64 = 0;

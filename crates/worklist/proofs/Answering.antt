@@ -1,10 +1,9 @@
 -- What is printed of a list, by what is collected of it.
 use mathlib.Core.Path.{◌≡◌, refl, sym, ap, ap₂, ◌∙◌}
 use mathlib.Core.List.{List, [], ◌∷◌}
-use mathlib.Core.Option.{Option, none, some}
+use mathlib.Core.Option.{Option, none}
 use Prim.Native.Nat.{ℕ, zero, suc}
 use native.Mathlib.Omega.{arith}
-use lib.ListN.{length}
 use Rattle.lines.specs.Bytes.{Bytes, lines, letter_R}
 use Rattle.lines.specs.Printing.{printed}
 use Rattle.matching.specs.declared.Jobs.{Jobs}
@@ -12,8 +11,7 @@ use Rattle.matching.specs.declared.BestDay.{BestDay}
 use Rattle.matching.specs.Answer.{best_day}
 use Rattle.worklist.specs.declared.Refused.{Refused}
 use Rattle.worklist.specs.declared.Collected.{Collected}
-use Rattle.worklist.specs.Lines.{window_rows}
-use Rattle.worklist.specs.Refusals.{first_refused, read_lines, or_else, call_refused, refused_in}
+use Rattle.worklist.specs.Refusals.{or_else, call_refused, refused_in}
 use Rattle.worklist.specs.Output.{jobs_in, printed_plan, printed_list, list_output}
 use Rattle.worklist.specs.Inner.Collecting.{refusal_if, as_refusal, CollectedFrom, refused_by_call}
 use Rattle.worklist.proofs.Found.{there}

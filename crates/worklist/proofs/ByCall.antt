@@ -1,13 +1,13 @@
 -- A list of which no line is refused by rows 11, 13 and 14: what the call answers for its jobs decides.
-use mathlib.Core.Path.{◌≡◌, refl, sym, ap, ap₂, ◌∙◌}
+use mathlib.Core.Path.{◌≡◌, refl, sym, ap, ◌∙◌}
 use mathlib.Core.Bool.{Bool, true, false, cond}
 use mathlib.Core.Logic.{◌⊎◌, inl, inr}
 use mathlib.Core.List.{List, map}
-use mathlib.Core.Option.{Option, none, some}
-use Prim.Native.Nat.{ℕ, zero, suc, ◌+◌, ◌≤◌, ◌<◌}
+use mathlib.Core.Option.{none, some}
+use Prim.Native.Nat.{suc, ◌+◌, ◌≤◌, ◌<◌}
 use native.Mathlib.Omega.{arith}
 use lib.Dec.{ltb}
-use lib.ListN.{length, take, length-take, length-map}
+use lib.ListN.{length, length-take, length-map}
 use lib.Seq.{take_all}
 use borrow.Author.Tests.{lt-ltb, le-ltb}
 use Rattle.lists.specs.Select.{every}
@@ -21,7 +21,6 @@ use Rattle.matching.specs.Choice.{chosen}
 use Rattle.matching.specs.Layout.{layout}
 use Rattle.matching.specs.Answer.{best_day}
 use Rattle.hindsight.proofs.Answering as answering
-use Rattle.worklist.specs.declared.Refused.{Refused}
 use Rattle.worklist.specs.Lines.{window_in, slot_rows}
 use Rattle.worklist.specs.Refusals.{first_refused, read_lines, too_many, or_else, call_refused}
 use Rattle.worklist.specs.Output.{jobs_in}

@@ -1,11 +1,10 @@
 -- Lines read one after the other: those that are done, and the bytes that are left.
 use mathlib.Core.Path.{◌≡◌, refl, sym, ap, ◌∙◌}
 use mathlib.Core.List.{List, [], ◌∷◌, ◌++◌, append-nil, append_assoc}
-use mathlib.Core.Logic.{◌⊎◌, inl, inr}
-use mathlib.Core.Option.{Option, none, some}
+use mathlib.Core.Option.{none, some}
 use Prim.Native.Nat.{ℕ, zero, suc, ◌+◌, ◌-◌, ◌≤◌, ◌<◌, min}
 use native.Mathlib.Omega.{arith}
-use lib.ListN.{length, take, drop, replicate, length-append, length-replicate, drop_of_length-le}
+use lib.ListN.{length, take, drop, replicate, length-replicate, drop_of_length-le}
 use lib.Seq.{take_all, take_at, take-append-add}
 use Rattle.lists.specs.Before.{before}
 use Rattle.board.specs.Rows.{first_given}

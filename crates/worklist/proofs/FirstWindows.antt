@@ -7,7 +7,6 @@ use lib.ListN.{length, get_or, take, length-take}
 use lib.Seq.{take-take, get_or-take}
 use Rattle.lists.specs.Select.{every}
 use Rattle.lists.proofs.Filling.{take_least}
-use Rattle.matching.specs.declared.Window.{Window}
 use Rattle.matching.specs.declared.Jobs.{Jobs}
 use Rattle.matching.specs.Windows.{most_jobs, is_window, windows_of}
 use Rattle.hindsight.proofs.Searching.Listed.{blank}

@@ -1,10 +1,9 @@
 -- The line that is refused, by the case that the code is in.
 use mathlib.Core.Path.{◌≡◌, refl, sym, ap, ◌∙◌}
 use mathlib.Core.Bool.{cond}
-use mathlib.Core.Option.{Option, none, some}
+use mathlib.Core.Option.{some}
 use Prim.Native.Nat.{ℕ, zero, suc, ◌+◌}
-use lib.Dec.{eqb}
-use borrow.Author.Tests.{eq-eqb, ne_eqb}
+use borrow.Author.Tests.{ne_eqb}
 use Rattle.matching.specs.declared.Jobs.{Jobs}
 use Rattle.matching.specs.Windows.{most_jobs, is_window, windows_of}
 use Rattle.worklist.specs.declared.Refused.{Refused}

@@ -1,20 +1,19 @@
 -- The jobs of some lines, with one line more.
-use mathlib.Core.Path.{◌≡◌, refl, sym, ap, ap₂, ◌∙◌}
-use mathlib.Core.Bool.{cond}
+use mathlib.Core.Path.{◌≡◌, refl, sym, ap, ◌∙◌}
 use mathlib.Core.Logic.{◌⊎◌, inl, inr}
-use mathlib.Core.List.{List, [], ◌∷◌, ◌++◌, map, map-append}
-use Prim.Native.Nat.{ℕ, suc, ◌+◌, ◌≤◌, ◌<◌}
+use mathlib.Core.List.{List, [], ◌∷◌, ◌++◌, map-append}
+use Prim.Native.Nat.{suc, ◌+◌, ◌≤◌, ◌<◌}
 use native.Mathlib.Numerals.{add-one}
 use native.Mathlib.Omega.{arith}
 use lib.Dec.{ltb}
-use lib.ListN.{length, take, set, replicate, length-append, length-set, length-replicate}
+use lib.ListN.{length, take, set, replicate, length-append, length-set}
 use lib.Seq.{take-suc-set}
 use borrow.Author.Tests.{lt-ltb, le-ltb}
 use Rattle.lists.proofs.Tests.{cmp, cond_true, cond_false}
 use Rattle.lines.specs.Bytes.{Bytes}
 use Rattle.matching.specs.declared.Window.{Window}
 use Rattle.matching.specs.declared.Jobs.{Jobs}
-use Rattle.matching.specs.Windows.{most_jobs, no_window, windows_of}
+use Rattle.matching.specs.Windows.{most_jobs, windows_of}
 use Rattle.worklist.specs.Lines.{window_in}
 use Rattle.worklist.specs.Inner.Collecting.{with_window, Gathered}
 

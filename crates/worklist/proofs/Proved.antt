@@ -1,17 +1,17 @@
 -- What is proved of the program's definition, put together.
-use mathlib.Core.Path.{◌≡◌, refl, sym, ap, ◌∙◌}
-use mathlib.Core.Bool.{Bool, true, false, cond}
+use mathlib.Core.Path.{◌≡◌, sym, ap, ◌∙◌}
+use mathlib.Core.Bool.{true, false}
 use mathlib.Core.Logic.{◌⊎◌, inl, inr}
 use mathlib.Core.List.{List, map}
 use mathlib.Core.Option.{Option, none, some}
-use Prim.Native.Nat.{ℕ, suc, ◌+◌, ◌≤◌, ◌<◌}
+use Prim.Native.Nat.{ℕ, ◌≤◌, ◌<◌}
 use native.Mathlib.Omega.{arith}
 use lib.ListN.{length}
 use Rattle.lists.specs.Select.{every}
 use Rattle.lists.proofs.Tests.{test, cmp, cond_false}
 use Rattle.lines.specs.Bytes.{Bytes}
 use Rattle.matching.specs.declared.BestDay.{BestDay}
-use Rattle.matching.specs.Windows.{most_jobs, is_window, windows_of}
+use Rattle.matching.specs.Windows.{most_jobs, is_window}
 use Rattle.matching.specs.Answer.{best_day}
 use Rattle.matching.proofs.Best.Answered.{answered}
 use Rattle.hindsight.proofs.Answering.{accepted}

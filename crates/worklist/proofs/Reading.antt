@@ -1,7 +1,6 @@
 -- A line of two fields: its answer, by where the fields end and what their readers say.
 use mathlib.Core.Path.{◌≡◌, refl, sym, ap, ◌∙◌}
-use mathlib.Core.Bool.{true, false}
-use mathlib.Core.List.{[], ◌∷◌}
+use mathlib.Core.Bool.{true}
 use mathlib.Core.Option.{none, some}
 use Prim.Native.Nat.{ℕ, zero, suc, ◌+◌, ◌≤◌, ◌<◌}
 use native.Mathlib.Omega.{arith}
@@ -11,7 +10,7 @@ use borrow.Author.Tests.{lt-ltb, le-ltb, ne_eqb, eq-eqb}
 use Rattle.lists.specs.Before.{before}
 use Rattle.board.specs.Rows.{◌if◌, first_given}
 use Rattle.lines.specs.Bytes.{Bytes, comma, fields}
-use Rattle.lines.specs.Fields.{a_number, readable_as, value, value_as}
+use Rattle.lines.specs.Fields.{a_number, value_as}
 use Rattle.lines.specs.Reading.{longest_line, too_long, field, readable}
 use Rattle.fields.specs.Numbers.{field_read}
 use Rattle.fields.proofs.Ends.{ends, end_within, next_field, whole}

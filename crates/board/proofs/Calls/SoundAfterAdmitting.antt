@@ -25,7 +25,7 @@ use Rattle.board.specs.Admit.{with_job}
 use Rattle.lists.proofs.Parts.{never_fall_append, drop_mem_suc}
 use Rattle.lists.proofs.Spread.{sharing}
 use Rattle.board.proofs.Soundness.Facts.{JobFacts, SoundFacts, admitted_in}
-use Rattle.board.proofs.Soundness.FreePlace.{room}
+use Rattle.board.proofs.Soundness.Room.{room}
 use Rattle.board.proofs.Calls.Rows.{Admits}
 use Rattle.board.proofs.Calls.HeldAfter.{new_place, held_with_job}
 

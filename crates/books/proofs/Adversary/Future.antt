@@ -8,7 +8,6 @@ use lib.ListN.{length}
 use Rattle.heights.proofs.Items.Item.{Item, Each}
 use Rattle.heights.proofs.Adversary.Allowed.{Grades, Fit, AllFit}
 use Rattle.rule.specs.Job.{job}
-use Rattle.rule.specs.Grade.{bits}
 use Rattle.rule.proofs.Bits.Number.{number, bits_number}
 use Rattle.rule.proofs.NoRegret.Items.{item, items}
 use Rattle.books.specs.Book.{Change, enter, end_slot}

@@ -19,7 +19,7 @@ use Rattle.board.specs.Rows.{unless_refused}
 use Rattle.board.specs.Events.{admitted_kind, baked_kind, given_up_kind, withdrawn_kind, event, admit_events}
 use Rattle.board.proofs.Soundness.Facts.{SoundFacts, admitted_in}
 use Rattle.board.proofs.Soundness.Apart.{facts}
-use Rattle.board.proofs.Soundness.FreePlace.{room}
+use Rattle.board.proofs.Soundness.Room.{room}
 use Rattle.board.proofs.Tallies.CountAt.{grades_counted}
 use Rattle.board.proofs.Tallies.Kinds.{same_cell, admitted_cell}
 use Rattle.board.proofs.Calls.Rows.{Admits}

@@ -1,0 +1,17 @@
+-- Row 3, and then what the search finds.
+use mathlib.Core.Path.{ap, ◌∙◌}
+use borrow.Author.Tests.{eq-eqb, ne_eqb}
+use Rattle.board.specs.Limits.{last_slot}
+use Rattle.board.specs.Rows.{◌if◌, first_given, promise_rows}
+use Rattle.board.specs.Promise.{promised_with}
+use Rattle.packing.specs.Inner.Packed.{board_in}
+use Rattle.promising.specs.Inner.Seen.{promised_seen}
+use Rattle.promising.proofs.promise_packed.Goals as goal
+
+pub returns-then-head : goal.returns-then-head
+unfolding promised_seen board_in promise_rows first_given ◌if◌ promised_with last_slot
+returns-then-head c T A = c.refused.ensures ∙ simp (eq-eqb _ _ c.if-head.true)
+
+pub returns : goal.returns
+unfolding promised_seen board_in promise_rows first_given ◌if◌ promised_with last_slot
+returns c T A = simp (ne_eqb _ _ c.if-head.false) (ap (promised_with 0) (c.promise-laxity.ensures T A))

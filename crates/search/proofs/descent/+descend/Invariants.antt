@@ -1,0 +1,4 @@
+use Rattle.search.proofs.descent.+descend.Given as goal
+
+abbrev pub decreases-descend : goal.decreases-descend
+decreases-descend l = l.left
