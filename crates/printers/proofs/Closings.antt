@@ -1,14 +1,12 @@
 -- A closing handed to a page: what is printed of it, and the page after it.
 use Rattle.std.proofs.Common.{◌≡◌, ℕ, Bool, cond, ◌&&◌, eqb, List, [], ◌∷◌, length, sym, refl, ap, ◌∙◌, append-nil, eq-eqb, ne_eqb}
-use types.Run.{OneOf, miss}
-use denote.Enum.Declared.{tag_of}
 use Rattle.lists.proofs.Tests.{cond_true}
 use Rattle.lines.specs.Sheet.{Figures, figures_of, page, figures_in, sheet_number, is_full, with_closing, page_after}
 use Rattle.lines.specs.Printers.{page_along, filled_by, pages_along}
+use Rattle.answers.specs.declared.Closing.{Closing as ClosingHeld}
 use Rattle.answers.specs.declared.Answer.{Answer as AnswerHeld}
 use Rattle.answers.specs.declared.Answer.TheVariants.{Refused, Opened, Admitted, Promised, Withdrawn, Closed}
 use Rattle.answers.specs.Printed.{answer_of}
-use Rattle.answers.specs.contracts.Answer.{the_type}
 use Rattle.answers.proofs.Jobs.{jobs_length}
 use Rattle.page.specs.declared.Figures.{Figures as FiguresHeld}
 use Rattle.page.specs.declared.Page.{Page}
@@ -45,27 +43,24 @@ module _ (p : List Figures) (f : Figures) where
         ∙ ap (λ (q : List Figures). cond (is_full q) (page q) []) (sym taken)
         ∙ ap (λ (c : Bool). cond c (page (page_after p f)) []) e
 
--- an answer that is no closing, a variant before `Closed`, brings nothing to the sheet, and the page is as it was
-abbrev no_closings : List ℕ
-no_closings = 0 ∷ 1 ∷ 2 ∷ 3 ∷ 4 ∷ []
-
-pub no_closing : (a : AnswerHeld) (T G : List ℕ) → OneOf no_closings (tag_of the_type a) → figures_in (answer_of a T G) ≡ []
+-- an answer that is no closing brings nothing to the sheet, and the page is as it was
+pub no_closing : (a : AnswerHeld) (T G : List ℕ) → ((c : ClosingHeld) → a ≡ Closed c → ⊥) → figures_in (answer_of a T G) ≡ []
 unfolding figures_in answer_of
 no_closing (Refused n) T G h = refl
 no_closing (Opened d) T G h = refl
 no_closing (Admitted t k) T G h = refl
 no_closing (Promised w) T G h = refl
 no_closing (Withdrawn t) T G h = refl
-no_closing (Closed c) T G h = absurd (miss no_closings 5 tt h)
+no_closing (Closed c) T G h = absurd (h c refl)
 
-pub page_as_it_was : (a : AnswerHeld) (p : Page) (l : ℕ) → OneOf no_closings (tag_of the_type a) → page_held p a l ≡ p
+pub page_as_it_was : (a : AnswerHeld) (p : Page) (l : ℕ) → ((c : ClosingHeld) → a ≡ Closed c → ⊥) → page_held p a l ≡ p
 unfolding page_held
 page_as_it_was (Refused n) p l h = refl
 page_as_it_was (Opened d) p l h = refl
 page_as_it_was (Admitted t k) p l h = refl
 page_as_it_was (Promised w) p l h = refl
 page_as_it_was (Withdrawn t) p l h = refl
-page_as_it_was (Closed c) p l h = absurd (miss no_closings 5 tt h)
+page_as_it_was (Closed c) p l h = absurd (h c refl)
 
 -- an answer is a closing with these figures
 pub record IsClosing (a : AnswerHeld) (T G : List ℕ) (f : FiguresHeld) : Type 0 where
@@ -73,6 +68,13 @@ pub record IsClosing (a : AnswerHeld) (T G : List ℕ) (f : FiguresHeld) : Type 
   pub closed : a ≡ Closed (record { slot = f.slot; ticket = f.ticket; grade = f.grade; shortfall = short })
   pub listed : f.listed ≡ length T
   pub as_many : length G ≡ length T
+
+-- that of a closing held, with as many racks given up as there are tickets
+abbrev pub figures_closed : ClosingHeld → (listed : ℕ) → FiguresHeld
+figures_closed c n = record { slot = c.slot; ticket = c.ticket; grade = c.grade; listed = n }
+
+pub is_closing : {a : AnswerHeld} {c : ClosingHeld} (T G : List ℕ) → a ≡ Closed c → length G ≡ length T → IsClosing a T G (figures_closed c (length T))
+is_closing {c = c} T G e n = record { short = c.shortfall; closed = e; listed = refl; as_many = n }
 
 -- it brings them to the sheet
 module _ {a : AnswerHeld} {T G : List ℕ} {f : FiguresHeld} (c : IsClosing a T G f) where
