@@ -58,6 +58,7 @@ fn closing(b: Board, lent: usize) -> ClosedParts
 }
 
 // One entry, put together from its parts.
+#[tactic(auto, unfolding(board::specs::Limits::places_held, crate::specs::Inner::Parts::entry_at))]
 fn entry_at(p: Parts, i: usize) -> Entry
     requires { i < places_held }
     ensures { result ≡ entry_at p i }
