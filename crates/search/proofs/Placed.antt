@@ -92,8 +92,9 @@ module _ (h : Head) (K T A : List ℕ) where
         sym (key_back (get_or K i 0) (omega (arith, due_last.1, due_last.2))) ∙ ap₂ key_of (same_last ∙ sym due_last.1) (same_grade ∙ D.of_grade) in
         let (j, o, at, ticket) = L.present i l key in
         let p = job_in (place_in K T A j) in
-        let last : p.last ≡ q.last = ap (λ k. k / tally_grades) (at ∙ sym key) ∙ same_last in
-        let grade : p.grade ≡ q.grade = ap (λ k. k % tally_grades) (at ∙ sym key) ∙ same_grade in
+        let same_key : get_or K j 0 ≡ get_or K i 0 = at ∙ sym key in
+        let last : p.last ≡ q.last = ap (λ k. k / tally_grades) {x = get_or K j 0} same_key ∙ same_last in
+        let grade : p.grade ≡ q.grade = ap (λ k. k % tally_grades) {x = get_or K j 0} same_key ∙ same_grade in
         let seen_p : JobSeen (slot_of b) b.depth p
         = record { shallow = f.shallow; begun = f.begun; in_date = omega (arith, f.in_date, last); short = rw (ap (λ x. x + 1 - slot_of b) last) f.short; graded = omega (arith, f.graded, grade) } in
         let m = mem_select (seen_job (slot_of b) b.depth) (job_of_place j o) (facts_seen (slot_of b) b.depth p seen_p) in
