@@ -21,46 +21,6 @@ loop-i-init c =
       exact = refl;
     }
 
-pub offset_bounds-b-i : goal.offset_bounds-b-i
-unfolding places_held
-offset_bounds-b-i c = search rules
-
-pub bounds-b-i : goal.bounds-b-i
-unfolding places_held
-bounds-b-i c = search rules
-
-pub offset_bounds-keys-i : goal.offset_bounds-keys-i
-unfolding places_held
-offset_bounds-keys-i c = search rules
-
-pub bounds-keys-i : goal.bounds-keys-i
-unfolding places_held
-bounds-keys-i c = search rules
-
-pub offset_bounds-tickets-i : goal.offset_bounds-tickets-i
-unfolding places_held
-offset_bounds-tickets-i c = search rules
-
-pub bounds-tickets-i : goal.bounds-tickets-i
-unfolding places_held
-bounds-tickets-i c = search rules
-
-pub offset_bounds-admitted-i : goal.offset_bounds-admitted-i
-unfolding places_held
-offset_bounds-admitted-i c = search rules
-
-pub bounds-admitted-i : goal.bounds-admitted-i
-unfolding places_held
-bounds-admitted-i c = search rules
-
-pub overflow_add-i : goal.overflow_add-i
-unfolding places_held
-overflow_add-i c = search rules
-
-pub loop-i-smaller : goal.loop-i-smaller
-unfolding places_held
-loop-i-smaller c = search rules
-
 pub loop-i-preserved : goal.loop-i-preserved
 loop-i-preserved c = unpacked_more c.loop-i.invariant c.key.result c.key.ensures c.loop-i-test.true
 

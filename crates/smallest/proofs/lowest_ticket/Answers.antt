@@ -4,11 +4,8 @@ use native.Mathlib.Omega.{arith}
 use Rattle.board.specs.Limits.{places_held}
 use Rattle.packing.specs.Inner.Packed.{in_use}
 use Rattle.smallest.specs.Inner.Lowest.{LowestOf}
-use Rattle.smallest.proofs.Lowest.{lowest_none, lowest_more, lowest_all}
+use Rattle.smallest.proofs.Lowest.{lowest_more, lowest_all}
 use Rattle.smallest.proofs.lowest_ticket.Goals as goal
-
-pub loop-i-init : goal.loop-i-init
-loop-i-init c = (omega arith, lowest_none _ _ _)
 
 pub loop-i-preserved : goal.loop-i-preserved
 loop-i-preserved c =

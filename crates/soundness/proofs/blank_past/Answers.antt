@@ -1,5 +1,5 @@
 -- The invariant: the flag, and the test of the places that are left, are the test of all.
-use mathlib.Core.Path.{◌≡◌, refl, ap, ◌∙◌}
+use mathlib.Core.Path.{◌≡◌, ap, ◌∙◌}
 use mathlib.Core.Bool.{◌&&◌}
 use Prim.Native.Nat.{◌+◌}
 use native.Mathlib.Omega.{arith}
@@ -12,9 +12,6 @@ use Rattle.board.specs.Sound.{is_blank}
 use Rattle.board.proofs.Known.{all_places}
 use Rattle.soundness.proofs.Steps.{every_step, every_done}
 use Rattle.soundness.proofs.blank_past.Goals as goal
-
-pub loop-i-init : goal.loop-i-init
-loop-i-init c = refl
 
 pub loop-i-smaller : goal.loop-i-smaller
 unfolding places_held

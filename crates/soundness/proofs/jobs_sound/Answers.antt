@@ -25,14 +25,6 @@ pub bounds-b-i : goal.bounds-b-i
 unfolding places_held
 bounds-b-i c = search rules
 
-pub seen_with-s-requires : goal.seen_with-s-requires
-unfolding places_held
-seen_with-s-requires c = omega arith
-
-pub overflow_step-i : goal.overflow_step-i
-unfolding places_held
-overflow_step-i c = search rules
-
 pub loop-i-preserved : goal.loop-i-preserved
 unfolding seen_with places_held
 loop-i-preserved c =

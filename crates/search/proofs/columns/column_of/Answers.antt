@@ -75,14 +75,6 @@ bounds-counts-j c =
     (omega (arith, c.requires.1, w, ap (λ n. c.args.start * n) w), c.requires.0) in
     omega (arith, inside)
 
-pub overflow_add-total : goal.overflow_add-total
-unfolding tally_grades deepest
-overflow_add-total c =
-    let inside : (c.args.start * c.width-n.result + c.width-n.result ≤ tally_grades) × (c.args.k < longest_laxity) =
-    let w = c.width-n.ensures in
-    (omega (arith, c.requires.1, w, ap (λ n. c.args.start * n) w), c.requires.0) in
-    omega (arith, inside)
-
 pub overflow_add-j : goal.overflow_add-j
 unfolding longest_laxity tally_grades deepest
 overflow_add-j c =

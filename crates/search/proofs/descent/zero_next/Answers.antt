@@ -18,9 +18,6 @@ overflow_mul-start c =
     let small : c.args.start < 2 ^ deepest = start_small deepest c.args.left c.args.start c.requires.0 in
     omega (arith, small)
 
-pub overflow_sub-left : goal.overflow_sub-left
-overflow_sub-left c = omega arith
-
 pub column_of-zero-requires : goal.column_of-zero-requires
 unfolding longest_laxity
 column_of-zero-requires c =
@@ -37,9 +34,6 @@ unfolding deepest
 overflow_add-start c =
     let small : c.args.start < 2 ^ deepest = start_small deepest c.args.left c.args.start c.requires.0 in
     omega (arith, small)
-
-pub overflow_sub-left-in-loop-k : goal.overflow_sub-left-in-loop-k
-overflow_sub-left-in-loop-k c = omega arith
 
 pub column_of-one-requires : goal.column_of-one-requires
 unfolding longest_laxity deepest
@@ -76,10 +70,6 @@ returns-then-zero_within c =
 pub overflow_add-within : goal.overflow_add-within
 unfolding longest_laxity deepest
 overflow_add-within c = omega (arith, c.column_of-zero.ensures.1, c.column_of-one.ensures.1)
-
-pub overflow_add-k : goal.overflow_add-k
-unfolding longest_laxity
-overflow_add-k c = omega arith
 
 pub loop-k-smaller : goal.loop-k-smaller
 unfolding longest_laxity

@@ -1,6 +1,5 @@
 -- The best laxity first, then the jobs.
 use native.Mathlib.Omega.{arith}
-use borrow.Author.Tests.{eq-eqb, ne_eqb}
 use Rattle.board.specs.Limits.{longest_laxity}
 use Rattle.search.proofs.descent.zero_within.Goals as goal
 
@@ -11,9 +10,3 @@ overflow_cast-k c = omega arith
 pub overflow_add-k : goal.overflow_add-k
 unfolding longest_laxity
 overflow_add-k c = omega arith
-
-pub returns-then-best-k : goal.returns-then-best-k
-returns-then-best-k c = simp (eq-eqb _ _ c.if-best-k.true)
-
-pub returns : goal.returns
-returns c = simp (ne_eqb _ _ c.if-best-k.false)

@@ -21,23 +21,11 @@ pub overflow_add-within : goal.overflow_add-within
 unfolding longest_laxity deepest
 overflow_add-within c = omega (arith, c.column_of-within.ensures.1)
 
-pub overflow_add-k : goal.overflow_add-k
-unfolding longest_laxity
-overflow_add-k c = search rules
-
-pub overflow_cast-k : goal.overflow_cast-k
-unfolding longest_laxity
-overflow_cast-k c = search rules
-
 pub returns-then-k-within : goal.returns-then-k-within
 unfolding longest_laxity deepest
 returns-then-k-within c =
     let next : c.loop-k.within + c.column_of-within.result ≡ within_all c.args.counts.now (c.loop-k.k + 1) = omega (arith, c.column_of-within.ensures.0, c.loop-k.invariant.3, sum_more (column c.args.counts.now 0 deepest) c.loop-k.k) in
     overfull_found _ (c.loop-k.k + 1) (omega arith) (omega (arith, next))
-
-pub overflow_cast-k-in-loop-k : goal.overflow_cast-k-in-loop-k
-unfolding longest_laxity
-overflow_cast-k-in-loop-k c = search rules
 
 pub loop-k-smaller-then-within-k : goal.loop-k-smaller-then-within-k
 unfolding longest_laxity

@@ -15,24 +15,12 @@ pub column_of-requires : goal.column_of-requires
 unfolding longest_laxity deepest
 column_of-requires c = (omega arith, omega (arith, c.requires))
 
-pub overflow_cast-result : goal.overflow_cast-result
-unfolding longest_laxity
-overflow_cast-result c = omega arith
-
-pub overflow_add-result : goal.overflow_add-result
-unfolding longest_laxity
-overflow_add-result c = omega arith
-
 pub returns-then-column_of-ne0 : goal.returns-then-column_of-ne0
 unfolding longest_laxity
 returns-then-column_of-ne0 c =
     let a = c.args in
     let z : ¬ (c.column_of.result ≡ 0) = c.if-column_of-ne0.true in
     least_of a.counts.now a.grade c.loop-k.k (omega arith) (omega (arith, c.column_of.ensures.0)) c.loop-k.invariant.1
-
-pub overflow_add-k : goal.overflow_add-k
-unfolding longest_laxity
-overflow_add-k c = omega arith
 
 pub loop-k-smaller : goal.loop-k-smaller
 unfolding longest_laxity

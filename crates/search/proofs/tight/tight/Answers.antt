@@ -25,10 +25,6 @@ pub overflow_add-within : goal.overflow_add-within
 unfolding longest_laxity deepest
 overflow_add-within c = omega (arith, c.column_of-here.ensures.1)
 
-pub overflow_add-k : goal.overflow_add-k
-unfolding longest_laxity deepest
-overflow_add-k c = search rules
-
 pub loop-k-smaller : goal.loop-k-smaller
 unfolding longest_laxity deepest
 loop-k-smaller c = search rules
