@@ -22,9 +22,6 @@ module _ (K T : List ℕ) (key : ℕ) where
     pub found : (r ≡ 2 ^ 32 - 1) ⊎ PlaceWith n r
     pub small : (i : ℕ) → i < n → get_or T i 0 < 2 ^ 32
 
-  pub lowest_none : LowestTo 0 (2 ^ 32 - 1)
-  lowest_none = record { least = λ i h e. absurd (omega arith); found = inl refl; small = λ i h. absurd (omega arith) }
-
   one_more : {P : ℕ → Type 0} {n : ℕ} → ((i : ℕ) → i < n → P i) → P n → (i : ℕ) → i < n + 1 → P i
   one_more {P} {n} f p i h = ⊎_elim (λ (l : n ≤ i). let e : n ≡ i = omega arith in subst P e p) (λ (l : i < n). f i l) (cmp n i)
 

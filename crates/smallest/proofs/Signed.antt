@@ -14,16 +14,11 @@ use mir.Facts.{to_z-of_z}
 use borrow.Author.Tests.{lt-ltb, le-ltb, le-leb, lt-leb}
 use Rattle.lists.proofs.Tests.{cmp, never}
 use Rattle.rule.specs.Shortfall.{below_zero}
-use Rattle.rule.proofs.Tight.Excess.{difference_up, difference_down, difference_order}
+use Rattle.rule.proofs.Tight.Excess.{difference_up, difference_order}
 
 -- a small number as a signed one
 pub signed : (n : ℕ) → n < 2 ^ 31 → to_z w32 n ≡ pos n
 signed n h = rw (lt-ltb n (2 ^ 31)) refl
-
-pub difference_fits : (a b : ℕ) → a < 2 ^ 31 → b < 2 ^ 31 → SFits w32 (pos a -ℤ pos b)
-difference_fits a b h k =
-    ⊎_elim (λ (l : b ≤ a). rw (difference_up a b) (record { sfits = omega arith })) (λ (l : a < b). rw (difference_down a b) (record { sfits = omega arith }))
-    (cmp b a)
 
 -- smaller is not at least
 less_not : (a b : ℕ) → ltb a b ≡ not (leb b a)
@@ -53,7 +48,7 @@ module _ (x : ℤ) (f : SFits w32 x) (h : lt_z (to_z w32 (of_z w32 x)) (pos 0) �
   turned : negsuc 0 -ℤ to_z w32 (of_z w32 x) ≡ pos (mag x)
   turned = ap (λ z. negsuc 0 -ℤ z) (to_z-of_z f) ∙ (negative x below).0
 
-  pub turned_fits : SFits w32 (negsuc 0 -ℤ to_z w32 (of_z w32 x))
+  turned_fits : SFits w32 (negsuc 0 -ℤ to_z w32 (of_z w32 x))
   turned_fits = subst (SFits w32) (sym turned) (record { sfits = f.sfits })
 
   pub turned_is : to_z w32 (of_z w32 (negsuc 0 -ℤ to_z w32 (of_z w32 x))) ≡ pos (mag x)
