@@ -13,60 +13,71 @@ use Rattle.fields.specs.Grades.{grade_of}
 use Rattle.packing.specs.Inner.Packed.{board_in}
 use Rattle.placing.specs.Inner.InPlace.{answer_in}
 use Rattle.admitting.proofs.OnSound.{admitting_on_sound}
+use Rattle.board.specs.declared.Admitted.{Admitted}
+use Rattle.session.specs.declared.Day.{Day}
 use Rattle.session.specs.Inner.Days.{GoodDay, day_in, stepped_in}
 use Rattle.session.proofs.Steps.{alone_as, admit_refused, admit_did}
 use Rattle.session.proofs.Packed.{admitted_kept, refused_did, same_day}
 use Rattle.session.proofs.admit_line.Goals as goal
-use Rattle.session.proofs.admit_line.Goals.{After-admit_packed-a, After-grade_meant-meant}
+use Rattle.session.proofs.admit_line.Goals.{Start, After-grade_meant-meant, After-admit_packed-a}
+
+-- the day that the arrays hold at the entry
+abbrev day_at : Start → Day
+day_at s = day_in s.args.day s.args.keys.now s.args.tickets.now s.args.admitted.now s.args.counts.now
+
+board_sound : (s : Start) → GoodDay (day_at s) → sound (day_at s).board ≡ true
+unfolding GoodDay day_in
+board_sound s g = g s.requires
+
+-- where the grade's meaning was asked for
+abbrev entry : After-grade_meant-meant → Start
+entry m = (goal.at.After-grade_meant-meant m).Start
 
 -- on the open board, which is sound, the grade is the one that is meant
-meant : (c : After-grade_meant-meant) → let day_at = day_in c.args.day c.args.keys.now c.args.tickets.now c.args.admitted.now c.args.counts.now in GoodDay day_at → c.grade_meant-meant.result ≡ grade_meant day_at.board.depth (grade_of c.args.grade)
-unfolding day_in board_in GoodDay
-meant c g =
-    let day_at = day_in c.args.day c.args.keys.now c.args.tickets.now c.args.admitted.now c.args.counts.now in
-    let board_sound : GoodDay day_at → sound day_at.board ≡ true = λ g. g c.requires in
-    let d = day_at.board.depth in
-    let depth : min d deepest ≡ d = omega (arith, (facts _ (board_sound g)).shallow) in
-    c.grade_meant-meant.ensures ∙ ap (λ (k : ℕ). grade_meant k (grade_of c.args.grade)) depth
+meant : (m : After-grade_meant-meant) → let s = entry m in
+    GoodDay (day_at s) → m.grade_meant-meant.result ≡ grade_meant (day_at s).board.depth (grade_of s.args.grade)
+unfolding day_in board_in
+meant m g =
+    let s = entry m in
+    let d = (day_at s).board.depth in
+    let depth : min d deepest ≡ d = omega (arith, (facts _ (board_sound s g)).shallow) in
+    m.grade_meant-meant.ensures ∙ ap (λ (k : ℕ). grade_meant k (grade_of s.args.grade)) depth
 
 -- so the step is one with this grade
-step_meant : (c : After-grade_meant-meant) → let day_at = day_in c.args.day c.args.keys.now c.args.tickets.now c.args.admitted.now c.args.counts.now in GoodDay day_at → step_admit day_at.board c.args.ticket c.args.laxity.0 (grade_meant day_at.board.depth (grade_of c.args.grade))
-    ≡ step_admit day_at.board c.args.ticket c.args.laxity.0 c.grade_meant-meant.result
-step_meant c g =
-    let day_at = day_in c.args.day c.args.keys.now c.args.tickets.now c.args.admitted.now c.args.counts.now in
-    ap (step_admit day_at.board c.args.ticket c.args.laxity.0) (sym (meant c g))
+step_meant : (m : After-grade_meant-meant) → let s = entry m in
+    GoodDay (day_at s)
+    → step_admit (day_at s).board s.args.ticket s.args.laxity.0 (grade_meant (day_at s).board.depth (grade_of s.args.grade))
+    ≡ step_admit (day_at s).board s.args.ticket s.args.laxity.0 m.grade_meant-meant.result
+step_meant m g =
+    let s = entry m in
+    ap (step_admit (day_at s).board s.args.ticket s.args.laxity.0) (sym (meant m g))
 
-answered : (c : After-admit_packed-a) → let day_at = day_in c.args.day c.args.keys.now c.args.tickets.now c.args.admitted.now c.args.counts.now in let answer =
-    let l = c.admit_packed-a.new in
-    answer_in c.admit_packed-a.result l.keys l.tickets l.admitted in GoodDay day_at → answer ≡ admitted day_at.board c.args.ticket c.args.laxity.0 c.grade_meant-meant.result
-unfolding day_in GoodDay
-answered c g =
-    let day_at = day_in c.args.day c.args.keys.now c.args.tickets.now c.args.admitted.now c.args.counts.now in
-    let board_sound : GoodDay day_at → sound day_at.board ≡ true = λ g. g c.requires in
-    let answer =
-    let l = c.admit_packed-a.new in
-    answer_in c.admit_packed-a.result l.keys l.tickets l.admitted in
-    c.admit_packed-a.ensures ∙ admitting_on_sound _ _ _ _ (board_sound g)
+-- and the call is 01's
+abbrev answer : After-admit_packed-a → Admitted
+answer o =
+    let l = o.admit_packed-a.new in
+    answer_in o.admit_packed-a.result l.keys l.tickets l.admitted
+
+answered : (o : After-admit_packed-a) → let s = (goal.at.After-admit_packed-a o).Start in
+    GoodDay (day_at s) → answer o ≡ admitted (day_at s).board s.args.ticket s.args.laxity.0 o.grade_meant-meant.result
+unfolding day_in
+answered o g = o.admit_packed-a.ensures ∙ admitting_on_sound _ _ _ _ (board_sound (goal.at.After-admit_packed-a o).Start g)
 
 pub returns-then-a-ne0 : goal.returns-then-a-ne0
 unfolding day_in answer_in
 returns-then-a-ne0 c g =
-    let day_at = day_in c.args.day c.args.keys.now c.args.tickets.now c.args.admitted.now c.args.counts.now in
-    let answer =
-    let l = c.admit_packed-a.new in
-    answer_in c.admit_packed-a.result l.keys l.tickets l.admitted in
-    alone_as (step_meant (goal.at.returns-then-a-ne0 c).After-grade_meant-meant g ∙ admit_refused day_at _ _ _ answer (answered (goal.at.returns-then-a-ne0 c).After-admit_packed-a g) c.if-a-ne0.true c.requires)
-    (refused_did day_at _ _ _ _ _ _ c.refuse.result g
-    (same_day c.args.day _ _ _ _ _ _ _ _ c.requires (admitted_kept _ _ _ _ answer (answered (goal.at.returns-then-a-ne0 c).After-admit_packed-a g) c.if-a-ne0.true))
+    let m = (goal.at.returns-then-a-ne0 c).After-grade_meant-meant in
+    let o = (goal.at.returns-then-a-ne0 c).After-admit_packed-a in
+    let s = entry m in
+    alone_as (step_meant m g ∙ admit_refused (day_at s) _ _ _ (answer o) (answered o g) c.if-a-ne0.true c.requires)
+    (refused_did (day_at s) _ _ _ _ _ _ c.refuse.result g
+    (same_day c.args.day _ _ _ _ _ _ _ _ c.requires (admitted_kept _ _ _ _ (answer o) (answered o g) c.if-a-ne0.true))
     c.refuse.ensures)
 
 pub returns : goal.returns
-unfolding day_in answer_in stepped_in GoodDay
+unfolding day_in answer_in stepped_in
 returns c g =
-    let day_at = day_in c.args.day c.args.keys.now c.args.tickets.now c.args.admitted.now c.args.counts.now in
-    let board_sound : GoodDay day_at → sound day_at.board ≡ true = λ g. g c.requires in
-    let answer =
-    let l = c.admit_packed-a.new in
-    answer_in c.admit_packed-a.result l.keys l.tickets l.admitted in
-    alone_as (step_meant (goal.at.returns c).After-grade_meant-meant g)
-    (admit_did day_at _ _ _ answer (answered (goal.at.returns c).After-admit_packed-a g) _ (board_sound g) c.if-a-ne0.false c.count_admitted.ensures)
+    let m = (goal.at.returns c).After-grade_meant-meant in
+    let o = (goal.at.returns c).After-admit_packed-a in
+    alone_as (step_meant m g)
+    (admit_did (day_at (entry m)) _ _ _ (answer o) (answered o g) _ (board_sound (entry m) g) c.if-a-ne0.false c.count_admitted.ensures)
