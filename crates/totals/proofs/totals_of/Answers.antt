@@ -9,7 +9,6 @@ use Rattle.lines.specs.Sheet.{page_slots, number_baked, number_given_up}
 use Rattle.page.specs.Pages.{page_of}
 use Rattle.totals.proofs.Sums.{baked_next, given_up_next}
 use Rattle.totals.proofs.totals_of.Goals as goal
-use Rattle.totals.proofs.totals_of.Goals.{else-f-ne0, then-f-ne0}
 
 pub loop-i-init : goal.loop-i-init
 unfolding number_baked how_many number_given_up
@@ -37,10 +36,7 @@ loop-i-preserved c =
     let baked = baked_next p c.loop-i.i (omega arith) in
     let given_up = given_up_next p c.loop-i.i (omega arith) in
     rw add-one
-    (elim c.if-f-ne0.branch [
-      | then-f-ne0 w ↦ (omega arith, omega arith, omega arith, omega (arith, baked), omega (arith, given_up))
-      | else-f-ne0 w ↦ (omega arith, omega arith, omega arith, omega (arith, baked), omega (arith, given_up))
-    ])
+    (omega arith, omega arith, omega arith, omega (arith, baked), omega (arith, given_up))
 
 pub returns : goal.returns
 returns c =
