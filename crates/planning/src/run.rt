@@ -58,7 +58,8 @@ fn finish<R: Print + Eprint + Clock>(
 {
     let end = plan::print_list(input, out);
     let put = streams::write_all(rt, &out[..end], failure);
-    if put < end {
+    let short = put < end;
+    if short {
         return unwritten(rt, input.len(), put, *failure);
     }
     Outcome {

@@ -27,21 +27,21 @@ pub returns-then-b-line : goal.returns-then-b-line
 returns-then-b-line c =
     let l = c.args.line.now in
     c.refused_with-then-b-line.ensures
-    ∙ row_13 l (short l c.if-line-gt-LONGEST_LINE.false) _ _ c.number_at-a.ensures.0 c.number_at-b.ensures.0 c.if-b-line.true
+    ∙ row_13 l (short l (omega arith)) _ _ c.number_at-a.ensures.0 c.number_at-b.ensures.0 c.if-b-line.true
 
 pub returns-in_default : goal.returns-in_default
 unfolding field_result
 returns-in_default c =
     let l = c.args.line.now in
     c.refused_with-in_default.ensures
-    ∙ first_bad l (short l c.if-line-gt-LONGEST_LINE.false) _ _ c.number_at-a.ensures.0 c.number_at-b.ensures.0 c.if-b-line.false
+    ∙ first_bad l (short l (omega arith)) _ _ c.number_at-a.ensures.0 c.number_at-b.ensures.0 c.if-b-line.false
     (sym (ap field_result c.in_default.is) ∙ c.number_at-a.ensures.1)
 
 pub returns-in_default-number : goal.returns-in_default-number
 unfolding field_result
 returns-in_default-number c =
     let l = c.args.line.now in
-    let s = short l c.if-line-gt-LONGEST_LINE.false in
+    let s = short l (omega arith) in
     let a = c.number_at-a.ensures in
     let b = c.number_at-b.ensures in
     c.refused_with-in_default-number.ensures
@@ -53,7 +53,7 @@ pub returns : goal.returns
 unfolding field_result
 returns c =
     let l = c.args.line.now in
-    let s = short l c.if-line-gt-LONGEST_LINE.false in
+    let s = short l (omega arith) in
     let a = c.number_at-a.ensures in
     let b = c.number_at-b.ensures in
     both_good l s _ _ a.0 b.0 c.if-b-line.false

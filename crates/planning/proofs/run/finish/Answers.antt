@@ -6,14 +6,14 @@ use Rattle.buffer.proofs.Fitting.{room_put}
 use Rattle.planning.specs.Runs.{EndsSo}
 use Rattle.planning.proofs.run.finish.Goals as goal
 
-pub returns-then-put-end : goal.returns-then-put-end
+pub returns-then-short : goal.returns-then-short
 unfolding EndsSo
-returns-then-put-end g c =
+returns-then-short g c =
     let printed = room_put (omega (arith, c.requires)) c.print_list-end.ensures in
-    rw c.unwritten.ensures (record { count = refl; ends = omega (arith, printed.end, c.if-put-end.true) })
+    rw c.unwritten.ensures (record { count = refl; ends = omega (arith, printed.end, c.if-short.true) })
 
 pub returns : goal.returns
 unfolding EndsSo
 returns g c =
     let printed = room_put (omega (arith, c.requires)) c.print_list-end.ensures in
-    record { count = refl; ends = omega (arith, printed.end, c.if-put-end.false, c.write_all-put.ensures, length-take c.print_list-end.result c.print_list-end.new.out) }
+    record { count = refl; ends = omega (arith, printed.end, c.if-short.false, c.write_all-put.ensures, length-take c.print_list-end.result c.print_list-end.new.out) }
