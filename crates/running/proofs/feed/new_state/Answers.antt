@@ -3,7 +3,6 @@ use mathlib.Core.List.{[]}
 use mathlib.Core.Option.{none}
 use mathlib.Core.Path.{◌≡◌, refl, ap, ap₂, ◌∙◌}
 use native.Mathlib.Omega.{arith}
-use borrow.Author.Rules.{rules}
 use Rattle.lists.proofs.Tests.{never}
 use Rattle.board.specs.declared.Tally.{Tally}
 use Rattle.lines.specs.Session.{new_session}
@@ -17,8 +16,7 @@ use Rattle.printers.specs.Programs.{program_of, printer_by, printer_of}
 use Rattle.session.specs.Inner.Days.{session_of, GoodDay}
 use Rattle.running.specs.Inner.Machines.{machine_of}
 use Rattle.running.proofs.Feeding.Along.{reading}
-use Rattle.running.proofs.feed.new_state.Statement.{statement}
-use Rattle.running.proofs.feed.new_state.Tie as tie
+use Rattle.running.proofs.feed.new_state.Goals as goal
 
 -- what each program knows before the first answer
 new_known : (g : Program) → printer_by g 1 new_page ≡ new_printer (program_of g)
@@ -26,31 +24,16 @@ unfolding printer_by program_of new_printer page_of new_page
 new_known Board = refl
 new_known Sheet = refl
 
-open_requires : tie.Need-open-requires
-open_requires c κs = search rules
-
-zero_requires : tie.Need-zero-requires
-zero_requires c κs = search rules
-
-new_page_requires : tie.Need-new-page-requires
-new_page_requires c κs = search rules
-
-no_bytes_requires : tie.Need-no-bytes-requires
-no_bytes_requires c κs = search rules
-
-returns : tie.Need-returns
+pub returns : goal.returns
 unfolding GoodDay machine_of session_of printer_of partial_bytes new_machine new_session
 returns c =
-    let program = c.before.before.before.before.before.args.program in
+    let program = c.args.program in
     record {
       good = λ e. never e refl;
-      machine = rw c.no_bytes.ensures
+      machine = rw c.no_bytes-partial.ensures
           (ap₂ (λ (t : Tally) (p : Printer). reading (record { board = none; tally = t }) p [])
-          c.before.before.zero.ensures
-          (ap (printer_by program 1) c.before.new_page.ensures ∙ new_known program));
+          c.zero-tally.ensures
+          (ap (printer_by program 1) c.new_page-page.ensures ∙ new_known program));
       number = refl;
-      partial = rw c.no_bytes.ensures (omega arith);
+      partial = rw c.no_bytes-partial.ensures (omega arith);
     }
-
-pub new_state_spec : {M : Type 1} → statement M
-new_state_spec = tie.close (tie.spec open_requires zero_requires new_page_requires no_bytes_requires returns)
