@@ -55,7 +55,7 @@ pub returns-then-full-eq-LONGEST_LAXITY : goal.returns-then-full-eq-LONGEST_LAXI
 unfolding longest_laxity
 returns-then-full-eq-LONGEST_LAXITY c =
     let whole : c.loop-k.k ≡ longest_laxity = omega arith in
-    sold_out_found _ c.loop-k.invariant.4 whole (omega (arith, c.if-full-eq-LONGEST_LAXITY.true))
+    sold_out_found _ c.loop-k.invariant.4 whole (omega arith)
 
 pub overflow_add-result : goal.overflow_add-result
 unfolding longest_laxity
@@ -65,4 +65,4 @@ pub returns : goal.returns
 unfolding longest_laxity
 returns c =
     let whole : c.loop-k.k ≡ longest_laxity = omega arith in
-    let l = c.loop-k in promise_found _ l.invariant.4 whole (omega (arith, l.invariant.1, c.if-full-eq-LONGEST_LAXITY.false))
+    let l = c.loop-k in promise_found _ l.invariant.4 whole (omega arith)
