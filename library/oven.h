@@ -35,6 +35,10 @@ extern "C" {
 #define OVEN_PAGE_SLOTS 48
 #define OVEN_PAGE_LENGTH 1250
 
+/* The best day in hindsight: most racks of a list. Its slots are 1 to 64. */
+#define OVEN_HINDSIGHT_RACKS 64
+#define OVEN_HINDSIGHT_SLOTS 64
+
 /* The numbers of the refusals. A call checks in this order, and gives the first that holds. */
 enum oven_refusal {
     OVEN_NOT_REFUSED = 0,
@@ -49,7 +53,9 @@ enum oven_refusal {
     OVEN_REFUSED_NO_SUCH_COUNT = 9, /* tally: kind above 3 or grade above 7 */
     OVEN_REFUSED_COUNT_FULL = 10,   /* tally: that count is already 8,000,000 */
     OVEN_REFUSED_OFF_SHEET = 16,    /* sheet: slot above 1,000,000, grade above 7 or more than 255 given up */
-    OVEN_REFUSED_NOT_WAITING = 17   /* withdrawing: ticket not on the board, or admitted in this slot */
+    OVEN_REFUSED_NOT_WAITING = 17,  /* withdrawing: ticket not on the board, or admitted in this slot */
+    OVEN_REFUSED_TOO_MANY = 18,     /* best day: more than OVEN_HINDSIGHT_RACKS racks */
+    OVEN_REFUSED_WINDOW = 19        /* best day: a slot not 1 to OVEN_HINDSIGHT_SLOTS, or a last slot before the first */
 };
 
 /* The kinds of event that a tally counts. */
@@ -113,6 +119,18 @@ typedef struct oven_page {
     oven_figures closings[OVEN_PAGE_SLOTS];
 } oven_page;
 
+/* The slots in which a rack can be baked. */
+typedef struct oven_window {
+    oven_slot first;
+    oven_slot last;
+} oven_window;
+
+/* A list of racks, best first, in the first `count` places; what the others hold is not looked at. */
+typedef struct oven_racks {
+    size_t count;
+    oven_window windows[OVEN_HINDSIGHT_RACKS];
+} oven_racks;
+
 /* The answers. Each has the number of the refusal; where it is not 0, all else in it but board, tally and page is 0. */
 typedef struct oven_opened {
     uint8_t refusal;
@@ -154,6 +172,11 @@ typedef struct oven_handed_over {
     uint8_t refusal;
     oven_page page;
 } oven_handed_over;
+
+typedef struct oven_planned {
+    uint8_t refusal;
+    uint32_t slots[OVEN_HINDSIGHT_RACKS]; /* the slot of each rack in the list's order; 0 for a rack left out and past the last one */
+} oven_planned;
 
 /*
  * The calls. OVEN_STACK_.. is the stack, in bytes, that suffices for a call: its own, and the board, tally or page that it is given
@@ -247,6 +270,13 @@ bool oven_page_full(oven_page page);
  */
 #define OVEN_STACK_PAGE_PRINT (4096 + OVEN_STACK_LOADER)
 size_t oven_page_print(oven_page page, uint8_t *out, size_t length);
+
+/*
+ * The best day in hindsight, for racks whose windows are all known: bakes, for every m at once, as many of the first m racks as any
+ * plan can. It stands apart from the boards. Refuses with 18 or 19; every slot is then 0.
+ */
+#define OVEN_STACK_BEST_DAY (163840 + OVEN_STACK_LOADER)
+oven_planned oven_best_day(oven_racks racks);
 
 #ifdef __cplusplus
 }

@@ -37,6 +37,12 @@ static void places(void) {
     STRUCT(oven_page);
     FIELD(oven_page, count);
     FIELD(oven_page, closings);
+    STRUCT(oven_window);
+    FIELD(oven_window, first);
+    FIELD(oven_window, last);
+    STRUCT(oven_racks);
+    FIELD(oven_racks, count);
+    FIELD(oven_racks, windows);
 }
 
 static void answers(void) {
@@ -67,6 +73,9 @@ static void answers(void) {
     STRUCT(oven_handed_over);
     FIELD(oven_handed_over, refusal);
     FIELD(oven_handed_over, page);
+    STRUCT(oven_planned);
+    FIELD(oven_planned, refusal);
+    FIELD(oven_planned, slots);
 }
 
 static void numbers(void) {
@@ -78,6 +87,8 @@ static void numbers(void) {
     NUMBER(OVEN_GRADES);
     NUMBER(OVEN_PAGE_SLOTS);
     NUMBER(OVEN_PAGE_LENGTH);
+    NUMBER(OVEN_HINDSIGHT_RACKS);
+    NUMBER(OVEN_HINDSIGHT_SLOTS);
     NUMBER(OVEN_REFUSED_DEPTH);
     NUMBER(OVEN_REFUSED_UNSOUND);
     NUMBER(OVEN_REFUSED_BOOK_ENDED);
@@ -90,6 +101,8 @@ static void numbers(void) {
     NUMBER(OVEN_REFUSED_COUNT_FULL);
     NUMBER(OVEN_REFUSED_OFF_SHEET);
     NUMBER(OVEN_REFUSED_NOT_WAITING);
+    NUMBER(OVEN_REFUSED_TOO_MANY);
+    NUMBER(OVEN_REFUSED_WINDOW);
     NUMBER(OVEN_KIND_ADMITTED);
     NUMBER(OVEN_KIND_BAKED);
     NUMBER(OVEN_KIND_GIVEN_UP);

@@ -92,6 +92,19 @@ static void try_pages(void) {
     }
 }
 
+/* Lists of so many racks, more than a list has too: of any window, and of one that makes every holder move; a window past the slots. */
+static void try_lists(void) {
+    oven_racks racks = {0};
+    for (uint32_t n = 0; n < OVEN_HINDSIGHT_RACKS; n++) racks.windows[n] = (oven_window){{1}, {OVEN_HINDSIGHT_SLOTS - n}};
+    for (racks.count = 0; racks.count <= OVEN_HINDSIGHT_RACKS; racks.count++) try_best_day(racks, OVEN_NOT_REFUSED);
+    try_best_day(racks, OVEN_REFUSED_TOO_MANY);
+    for (uint32_t n = 0; n < OVEN_HINDSIGHT_RACKS; n++) racks.windows[n] = (oven_window){{1}, {OVEN_HINDSIGHT_SLOTS}};
+    racks.count = OVEN_HINDSIGHT_RACKS;
+    try_best_day(racks, OVEN_NOT_REFUSED);
+    racks.windows[0].last.number = OVEN_HINDSIGHT_SLOTS + 1;
+    try_best_day(racks, OVEN_REFUSED_WINDOW);
+}
+
 int main(void) {
     try_first();
     for (uint32_t depth = 0; depth <= 3; depth++) try_depth(depth);
@@ -100,6 +113,7 @@ int main(void) {
     try_ended();
     try_tally();
     try_pages();
+    try_lists();
     for (int call = 0; call < CALLS; call++) {
         size_t most = calls[call].most, figure = calls[call].figure, loader = calls[call].loader;
         printf("%-19s takes %5zu bytes of stack at the most, the header says %5zu, the loader's %zu in it\n", calls[call].name, most, figure, loader);

@@ -15,6 +15,7 @@ static struct {
     oven_tally tally;
     oven_page page;
     oven_figures closing;
+    oven_racks racks;
 } given;
 
 static struct {
@@ -30,6 +31,7 @@ static struct {
     oven_tally tally;
     oven_page page;
     oven_handed_over handed_over;
+    oven_planned planned;
 } answer;
 
 static oven_entry list[OVEN_PLACES];
@@ -54,9 +56,10 @@ static void page_new(void) { answer.page = oven_page_new(); }
 static void page_hand_over(void) { answer.handed_over = oven_page_hand_over(given.page, given.closing); }
 static void page_full(void) { answer.full = oven_page_full(given.page); }
 static void page_print(void) { answer.printed = oven_page_print(given.page, text, given.length); }
+static void best_day(void) { answer.planned = oven_best_day(given.racks); }
 
 /* The calls, with the header's figure, the loader's part of it, and the most that was seen where nothing is bound. */
-enum call { OPEN, SOUND, ADMIT, CLOSE_INTO, CLOSE, PROMISE, WITHDRAW, ZERO, NOTE, COUNT, PAGE_NEW, PAGE_HAND_OVER, PAGE_FULL, PAGE_PRINT, CALLS };
+enum call { OPEN, SOUND, ADMIT, CLOSE_INTO, CLOSE, PROMISE, WITHDRAW, ZERO, NOTE, COUNT, PAGE_NEW, PAGE_HAND_OVER, PAGE_FULL, PAGE_PRINT, BEST_DAY, CALLS };
 
 static struct {
     const char *name;
@@ -77,6 +80,7 @@ static struct {
     {"oven_page_hand_over", page_hand_over, OVEN_STACK_PAGE_HAND_OVER, OVEN_STACK_LOADER, 0},
     {"oven_page_full", page_full, OVEN_STACK_PAGE_FULL, 0, 0},
     {"oven_page_print", page_print, OVEN_STACK_PAGE_PRINT, OVEN_STACK_LOADER, 0},
+    {"oven_best_day", best_day, OVEN_STACK_BEST_DAY, OVEN_STACK_LOADER, 0},
 };
 
 static unsigned passed, failed;
@@ -183,4 +187,10 @@ static void try_print(oven_page page, size_t length, size_t printed) {
     given.length = length;
     measure(PAGE_PRINT);
     expect(answer.printed == printed, PAGE_PRINT, "another end");
+}
+
+static void try_best_day(oven_racks racks, uint8_t number) {
+    given.racks = racks;
+    measure(BEST_DAY);
+    expect(answer.planned.refusal == number, BEST_DAY, "another number");
 }

@@ -1,7 +1,8 @@
 //! The library's calls with their answers as they come: the number of a refusal, or 0, and the board, tally or page that came back.
 
-use crate::{Board, Page, Slot, Tally, Wait};
+use crate::{Board, Page, Racks, Slot, Tally, Wait};
 
+pub use crate::declared::best_day;
 pub use crate::declared::{admit, close, close_into, open, promise, sound, withdraw};
 pub use crate::declared::{count, note, zero};
 pub use crate::declared::{page_full, page_hand_over, page_new, page_print};
@@ -86,4 +87,14 @@ pub struct HandOverAnswer {
     pub refusal: u8,
     /// The page that came back.
     pub page: Page,
+}
+
+/// What the best day in hindsight answers.
+#[repr(C)]
+#[derive(Clone, Copy, Debug, PartialEq, Eq)]
+pub struct BestDayAnswer {
+    /// The number of a refusal, or 0.
+    pub refusal: u8,
+    /// The slot of each rack in the list's order; 0 for a rack left out, past the last one, and after a refusal.
+    pub slots: [u32; Racks::MOST],
 }

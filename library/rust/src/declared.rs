@@ -5,10 +5,10 @@
 #![allow(unsafe_code)]
 
 use crate::calls::{
-    AdmitAnswer, CloseAnswer, CountAnswer, HandOverAnswer, OpenAnswer, PromiseAnswer,
-    WithdrawAnswer,
+    AdmitAnswer, BestDayAnswer, CloseAnswer, CountAnswer, HandOverAnswer, OpenAnswer,
+    PromiseAnswer, WithdrawAnswer,
 };
-use crate::{Board, Entry, Figures, Page, Slot, Tally, Wait};
+use crate::{Board, Entry, Figures, Page, Racks, Slot, Tally, Wait};
 
 extern "C" {
     fn oven_open(depth: u32) -> OpenAnswer;
@@ -33,6 +33,7 @@ extern "C" {
     fn oven_page_hand_over(page: Page, closing: Figures) -> HandOverAnswer;
     fn oven_page_full(page: Page) -> bool;
     fn oven_page_print(page: Page, out: *mut u8, length: usize) -> usize;
+    fn oven_best_day(racks: Racks) -> BestDayAnswer;
 }
 
 /// A new board of this depth. Refuses with 1.
@@ -113,4 +114,9 @@ pub fn page_full(page: Page) -> bool {
 /// Prints the page at the start of the bytes, and gives how many of them it wrote: [`Page::LENGTH`], or 0 where they are fewer.
 pub fn page_print(page: Page, out: &mut [u8]) -> usize {
     unsafe { oven_page_print(page, out.as_mut_ptr(), out.len()) }
+}
+
+/// The best day in hindsight: the slot of each rack. Refuses with 18 or 19.
+pub fn best_day(racks: Racks) -> BestDayAnswer {
+    unsafe { oven_best_day(racks) }
 }

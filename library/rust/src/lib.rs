@@ -35,14 +35,16 @@
 mod board;
 pub mod calls;
 mod declared;
+mod hindsight;
 mod refusal;
 mod sheet;
 mod tally;
 
 pub use board::{Baked, Board, Closed, Entry, Place, Slot, Wait};
+pub use hindsight::{best_day, Racks, Window};
 pub use refusal::{
-    AdmitRefusal, CloseRefusal, CountRefusal, HandOverRefusal, OpenRefusal, PromiseRefusal,
-    WithdrawRefusal,
+    AdmitRefusal, BestDayRefusal, CloseRefusal, CountRefusal, HandOverRefusal, OpenRefusal,
+    PromiseRefusal, WithdrawRefusal,
 };
 pub use sheet::{Figures, Page};
 pub use tally::{Kind, Tally};

@@ -92,3 +92,10 @@ refusals! {
     HandOverRefusal:
     OffSheet = 16, "slot above 1,000,000, grade above 7 or more than 255 given up";
 }
+
+refusals! {
+    /// Why the best day in hindsight was refused.
+    BestDayRefusal:
+    TooMany = 18, "more than 64 racks";
+    Window = 19, "a slot outside 1 to 64, or a last slot before the first";
+}

@@ -1,13 +1,14 @@
 //! The Rust crate's structs, limits and numbers, a line for each, as layout.c prints those of the C header.
 
 use oven::calls::{
-    AdmitAnswer, CloseAnswer, CountAnswer, HandOverAnswer, OpenAnswer, PromiseAnswer,
-    WithdrawAnswer,
+    AdmitAnswer, BestDayAnswer, CloseAnswer, CountAnswer, HandOverAnswer, OpenAnswer,
+    PromiseAnswer, WithdrawAnswer,
 };
 use oven::{
-    AdmitRefusal, CloseRefusal, CountRefusal, HandOverRefusal, OpenRefusal, WithdrawRefusal,
+    AdmitRefusal, BestDayRefusal, CloseRefusal, CountRefusal, HandOverRefusal, OpenRefusal,
+    WithdrawRefusal,
 };
-use oven::{Board, Entry, Figures, Kind, Page, Place, Slot, Tally, Wait};
+use oven::{Board, Entry, Figures, Kind, Page, Place, Racks, Slot, Tally, Wait, Window};
 use std::mem::{size_of, size_of_val};
 
 /// Prints a struct's size, and the place and size of each field, by the header's names.
@@ -32,6 +33,8 @@ fn places() {
     layout!("oven_tally", Tally, Tally::new(), counts "counts");
     layout!("oven_figures", Figures, Figures::default(), slot "slot", ticket "ticket", grade "grade", given_up "given_up");
     layout!("oven_page", Page, Page::new(), count "count", closings "closings");
+    layout!("oven_window", Window, Window::default(), first "first", last "last");
+    layout!("oven_racks", Racks, Racks::of(&[]), count "count", windows "windows");
 }
 
 fn answers() {
@@ -49,6 +52,8 @@ fn answers() {
     layout!("oven_withdrawn", WithdrawAnswer, withdrawn, refusal "refusal", grade "grade", board "board");
     layout!("oven_counted", CountAnswer, counted, refusal "refusal", tally "tally");
     layout!("oven_handed_over", HandOverAnswer, handed_over, refusal "refusal", page "page");
+    let planned = oven::calls::best_day(Racks::of(&[]));
+    layout!("oven_planned", BestDayAnswer, planned, refusal "refusal", slots "slots");
 }
 
 fn numbers() {
@@ -60,6 +65,8 @@ fn numbers() {
     println!("OVEN_GRADES: {}", Tally::GRADES);
     println!("OVEN_PAGE_SLOTS: {}", Page::SLOTS);
     println!("OVEN_PAGE_LENGTH: {}", Page::LENGTH);
+    println!("OVEN_HINDSIGHT_RACKS: {}", Racks::MOST);
+    println!("OVEN_HINDSIGHT_SLOTS: {}", Racks::SLOTS);
     let refused = |name, number| println!("OVEN_REFUSED_{name}: {number}");
     refused("DEPTH", OpenRefusal::Depth.number());
     refused("UNSOUND", AdmitRefusal::Unsound.number());
@@ -73,6 +80,8 @@ fn numbers() {
     refused("COUNT_FULL", CountRefusal::CountFull.number());
     refused("OFF_SHEET", HandOverRefusal::OffSheet.number());
     refused("NOT_WAITING", WithdrawRefusal::NotWaiting.number());
+    refused("TOO_MANY", BestDayRefusal::TooMany.number());
+    refused("WINDOW", BestDayRefusal::Window.number());
     println!("OVEN_KIND_ADMITTED: {}", Kind::Admitted as u32);
     println!("OVEN_KIND_BAKED: {}", Kind::Baked as u32);
     println!("OVEN_KIND_GIVEN_UP: {}", Kind::GivenUp as u32);
