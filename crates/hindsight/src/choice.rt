@@ -1,7 +1,7 @@
 // The jobs that are baked: in list order, each that finds a slot beside those chosen before it.
 ghost use Rattle.std.specs.Prelude.{◌≡◌, false, replicate};
 ghost use Rattle.matching.specs.Windows.{slot_count, windows_of};
-ghost use Rattle.matching.specs.Choice.{chosen as Chosen-of};
+ghost use Rattle.matching.specs.Choice.{chosen as chosen_of};
 ghost use Rattle.hindsight.specs.Inner.Search.{Accepted};
 
 use crate::search;
@@ -21,7 +21,7 @@ fn begin(holders: [u8; Jobs::SLOTS]) -> search::Trail
 // The jobs chosen.
 pub(crate) fn choose(d: Jobs) -> [bool; Jobs::MOST]
     requires { Accepted d }
-    ensures { result ≡ Chosen-of (windows_of d) }
+    ensures { result ≡ chosen_of (windows_of d) }
 {
     let n = d.count;
     let mut chosen = [false; Jobs::MOST];

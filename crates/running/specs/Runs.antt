@@ -17,7 +17,7 @@ use Rattle.running.specs.Inner.Machines.{machine_of}
 unfoldable pub most_read : ℕ
 most_read = 2 ^ 48
 
--- bytes of a buffer, which is the kit's `io::large_buffer`, and of a chunk at the most
+-- bytes of a buffer, and of a chunk at the most: `BUFFER` of running/src/run.rt
 unfoldable pub buffer_length : ℕ
 buffer_length = 65_536
 

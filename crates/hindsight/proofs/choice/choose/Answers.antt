@@ -2,7 +2,7 @@
 use mathlib.Core.Path.{sym, ap, subst, ◌∙◌}
 use native.Mathlib.Omega.{arith}
 use Rattle.matching.specs.Windows.{windows_of}
-use Rattle.matching.specs.Choice.{chosen_to, chosen as Chosen-of}
+use Rattle.matching.specs.Choice.{chosen_to, chosen as chosen_of}
 use Rattle.hindsight.specs.Inner.Search.{Ready, Sought}
 use Rattle.hindsight.proofs.Searching.Listed.{windows_count}
 use Rattle.hindsight.proofs.Choosing.Matched.{matched_first, ready, matched_next}
@@ -30,7 +30,7 @@ loop-i-preserved c =
     (omega arith, matched_next d c.requires i c.loop-i-test.true c.loop-i.chosen c.loop-i.holders c.loop-i.invariant.1 c.seek-t.result sought)
 
 pub returns : goal.returns
-unfolding Chosen-of
+unfolding chosen_of
 returns c =
     let d = c.args.d in
     c.loop-i.invariant.1.chosen_is ∙ ap (chosen_to (windows_of d)) (omega (arith, windows_count d c.requires))
