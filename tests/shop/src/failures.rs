@@ -7,11 +7,8 @@ use std::env;
 use std::fs::{self, File, OpenOptions};
 use std::io::Write;
 use std::os::unix::io::AsRawFd;
-use std::os::unix::process::ExitStatusExt;
 use std::path::PathBuf;
 use std::process::{Command, ExitStatus, Stdio};
-
-const SIGPIPE: i32 = 13;
 
 fn failed(program: &Program, said: &str, what: &str, status: ExitStatus) -> bool {
     said == format!("{}: {what}\n", program.name) && status.code() == Some(1)
@@ -46,7 +43,7 @@ pub fn full_disk(program: &Program) -> bool {
     stopped && failed(program, &said, "cannot write standard output: No space left on device", ended.status)
 }
 
-/// A reader that is gone: the system ends the program, or, where that signal is ignored, it says so.
+/// A reader that is gone: said, and the same whether whoever starts the program ignores that signal or not, since the program itself ignores it.
 pub fn closed_pipe(program: &Program, ignored: bool) -> bool {
     let (out, into) = system::pipe();
     drop(out);
@@ -55,11 +52,7 @@ pub fn closed_pipe(program: &Program, ignored: bool) -> bool {
     let mut command = if ignored { after("trap '' PIPE", program) } else { Command::new(&program.binary) };
     let (_, said, status) = whole(&mut command, input, Stdio::from(into));
     fs::remove_file(day).expect("the file goes");
-    if ignored {
-        failed(program, &said, "cannot write standard output: Broken pipe", status)
-    } else {
-        said.is_empty() && status.signal() == Some(SIGPIPE)
-    }
+    failed(program, &said, "cannot write standard output: Broken pipe", status)
 }
 
 /// A limit on a file's size: what is written is the beginning of the output, and no line stands in another.
