@@ -21,7 +21,7 @@ use Rattle.running.specs.Inner.Days.{Answered}
 use Rattle.running.specs.Inner.Machines.{TakenIn, none_begun, none_begun_after}
 use Rattle.running.proofs.Stepping.Answering.{answered_by}
 use Rattle.running.proofs.Feeding.LineTaken.{whole_line}
-use Rattle.running.proofs.Feeding.Taken.{taken_none, kept_length, taken_join}
+use Rattle.running.proofs.Feeding.Taken.{taken_none, taken_join}
 use Rattle.running.proofs.answering.feed_lines.Goals as goal
 use Rattle.running.proofs.answering.feed_lines.Goals.{At-loop-to, in-Board, in-Sheet}
 
@@ -52,18 +52,6 @@ slice_bounds-step_line-count c = forward (goal.at.slice_bounds-step_line-count c
 
 pub slice_bounds-step_line-start : goal.slice_bounds-step_line-start
 slice_bounds-step_line-start c = forward (goal.at.slice_bounds-step_line-start c).At-loop-to
-
-pub slice_bounds-step_line-end-in-loop-to : goal.slice_bounds-step_line-end-in-loop-to
-unfolding places_held
-slice_bounds-step_line-end-in-loop-to c = sym c.loop-to.invariant.2
-
-pub slice_bounds-step_line-end-in-loop-to-2 : goal.slice_bounds-step_line-end-in-loop-to-2
-unfolding places_held
-slice_bounds-step_line-end-in-loop-to-2 c = sym c.loop-to.invariant.3
-
-pub slice_bounds-step_line-end-in-loop-to-3 : goal.slice_bounds-step_line-end-in-loop-to-3
-unfolding places_held
-slice_bounds-step_line-end-in-loop-to-3 c = sym c.loop-to.invariant.4
 
 pub slice_bounds-expired-end : goal.slice_bounds-expired-end
 unfolding places_held none_begun stepped_in
@@ -177,9 +165,6 @@ slice_bounds-print_by-end-in-Sheet c =
     let in_grades : c.step_line-s.result.listed ≤ length c.step_line-s.new.grades = omega (arith, did.few, grades_full) in
     sym (length-take-le _ _ in_grades)
 
-pub overflow_add-used : goal.overflow_add-used
-overflow_add-used c = omega (arith, c.loop-to-test.true, c.loop-to.invariant.5)
-
 pub loop-to-smaller : goal.loop-to-smaller
 loop-to-smaller c =
     omega (arith, forward (goal.at.loop-to-smaller c).At-loop-to, c.loop-to-test.true)
@@ -230,15 +215,9 @@ loop-to-preserved c =
           (turned p.result _ p.ensures, c.next_byte-to-in-loop-to.ensures, tickets_full, grades_full, slots_full, c.loop-to.invariant.5)
     ]
 
-pub shape_of-out-else-end-out : goal.shape_of-out-else-end-out
-shape_of-out-else-end-out c = kept_length (c.loop-to.invariant.0 [])
-
 pub returns-else-end-out : goal.returns-else-end-out
 unfolding none_begun_after
 returns-else-end-out c = c.loop-to.invariant.0
-
-pub shape_of-out-after-loop-to : goal.shape_of-out-after-loop-to
-shape_of-out-after-loop-to c = kept_length (c.loop-to.invariant.0 [])
 
 pub returns-after-loop-to : goal.returns-after-loop-to
 unfolding none_begun_after

@@ -4,7 +4,7 @@ use native.Mathlib.Omega.{arith}
 use borrow.Author.Tests.{leb-true, leb-false}
 use lib.ListN.{length}
 use Rattle.answers.specs.Printed.{answer_room}
-use Rattle.running.proofs.Feeding.Taken.{taken_none, kept_length, taken_join, stops_full, stops_at_end}
+use Rattle.running.proofs.Feeding.Taken.{taken_none, kept_length, taken_join, stops_full}
 use Rattle.running.proofs.feed.feed.Goals as goal
 
 pub loop-used-init : goal.loop-used-init
@@ -23,26 +23,8 @@ feed_part-part-requires c =
       len_le_partial_room = (v.partial, v.inside, room, omega (arith, v.number, v.inside, c.requires.chunk_bound));
     }
 
-pub feed_whole-all-requires : goal.feed_whole-all-requires
-feed_whole-all-requires c =
-    let v = c.loop-used.invariant in
-    let w = c.feed_part-part.ensures.taken_in in
-    record {
-      good_day = w.good;
-      len_le_partial_room = (w.partial, w.inside, omega (arith, w.fits, kept_length w));
-      chunk_bound = omega (arith, w.number, v.number, c.requires.chunk_bound);
-    }
-
-pub loop-used-smaller : goal.loop-used-smaller
-loop-used-smaller c =
-    let h = c.loop-used-test.true in
-    omega (arith, c.feed_part-part.ensures.from_lt_used h, c.feed_whole-all.ensures.forward, c.feed_whole-all.ensures.inside)
-
 pub loop-used-preserved : goal.loop-used-preserved
 loop-used-preserved c = taken_join (taken_join c.loop-used.invariant c.feed_part-part.ensures.taken_in) c.feed_whole-all.ensures
-
-pub shape_of-out-else-end-out : goal.shape_of-out-else-end-out
-shape_of-out-else-end-out c = kept_length c.loop-used.invariant
 
 pub returns-else-end-out : goal.returns-else-end-out
 unfolding answer_room
@@ -52,15 +34,4 @@ returns-else-end-out c =
     record {
       taken_in = v;
       goes_on = stops_full v (omega (arith, no_room, kept_length v));
-    }
-
-pub shape_of-out-after-loop-used : goal.shape_of-out-after-loop-used
-shape_of-out-after-loop-used c = kept_length c.loop-used.invariant
-
-pub returns-after-loop-used : goal.returns-after-loop-used
-returns-after-loop-used c =
-    let v = c.loop-used.invariant in
-    record {
-      taken_in = v;
-      goes_on = stops_at_end v c.loop-used-test.false;
     }

@@ -11,14 +11,6 @@ use Rattle.running.specs.Inner.Machines.{machine_of}
 use Rattle.running.proofs.Feeding.Ending.{board_end, sheet_end, ended}
 use Rattle.running.proofs.feed.finish.Goals as goal
 
-pub last_line-after-requires : goal.last_line-after-requires
-unfolding answer_room
-last_line-after-requires c =
-    record {
-      good_day = c.requires.good_day;
-      len_le_partial_room = (c.requires.len_le_partial_room.0, c.requires.len_le_partial_room.1, omega (arith, c.requires.len_le_partial_room.2));
-    }
-
 pub print_day-requires : goal.print_day-requires
 unfolding answer_room tally_room
 print_day-requires c =

@@ -24,13 +24,6 @@ slice_bounds-write_all-end-2 g c =
     let f = c.finish-end in
     sym (length-take-le f.result f.new.out (omega (arith, f.ensures.fits, f.auto.out)))
 
-pub overflow_add-written : goal.overflow_add-written
-unfolding buffer_length
-overflow_add-written g c =
-    let w = c.write_all-put.ensures in
-    let f = c.finish-end in
-    omega (arith, w, slice_bounds-write_all-end-2 g (goal.at.overflow_add-written g c).After-slice_known-2-1, f.ensures.fits, f.auto.out, c.requires.len_le_partial_room.2, c.requires.len_le_partial_room.3)
-
 pub returns-then-put-end : goal.returns-then-put-end
 unfolding EndsSo
 returns-then-put-end g c =

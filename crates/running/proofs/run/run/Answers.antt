@@ -8,21 +8,13 @@ use lib.Seq.{length-take-le}
 use Rattle.streams.specs.Got.{Within}
 use Rattle.answers.specs.Printed.{answer_room}
 use Rattle.running.specs.Runs.{buffer_length, most_read}
-use Rattle.running.proofs.Running.Inputs.{nothing_read, stopped, too_long, chunk_more, chunk_part}
+use Rattle.running.proofs.Running.Inputs.{nothing_read, too_long, chunk_more, chunk_part}
 use Rattle.running.proofs.run.run.Goals as goal
 
 pub loop-read-init : goal.loop-read-init
 unfolding buffer_length
 loop-read-init g c =
     (nothing_read c.new_state-state.ensures, omega arith, omega arith)
-
-pub slice_bounds-read_some-end : goal.slice_bounds-read_some-end
-unfolding buffer_length
-slice_bounds-read_some-end g c = sym c.loop-read.invariant.1
-
-pub slice_bounds-stop-end : goal.slice_bounds-stop-end
-unfolding buffer_length
-slice_bounds-stop-end g c = sym c.loop-read.invariant.2
 
 pub stop-requires : goal.stop-requires
 unfolding most_read answer_room buffer_length
@@ -33,9 +25,6 @@ stop-requires g c =
       good_day = v.0.good;
       len_le_partial_room = (v.0.partial, omega (arith, v.0.number, t), v.2, omega (arith, v.0.few, t));
     }
-
-pub returns-in_default : goal.returns-in_default
-returns-in_default g c = stopped c.loop-read.invariant.0 c.stop.ensures
 
 pub slice_bounds-chunk-end : goal.slice_bounds-chunk-end
 unfolding buffer_length Within
@@ -57,27 +46,6 @@ slice_bounds-take_in-end g c =
     let full : length c.read_some-got.new.buf ≡ buffer_length = c.read_some-got.auto.buf ∙ c.loop-read.invariant.1 in
     let as_many : length (take c.in-Bytes.n c.read_some-got.new.buf) ≡ c.in-Bytes.n = length-take-le c.in-Bytes.n c.read_some-got.new.buf (omega (arith, some.1, full)) in
     sym as_many
-
-pub slice_bounds-take_in-end-in-loop-read : goal.slice_bounds-take_in-end-in-loop-read
-unfolding buffer_length
-slice_bounds-take_in-end-in-loop-read g c = sym c.loop-read.invariant.2
-
-pub take_in-t-requires : goal.take_in-t-requires
-unfolding buffer_length most_read Within
-take_in-t-requires g c =
-    let some : 1 ≤ c.in-Bytes.n × (c.in-Bytes.n ≤ buffer_length) =
-    let e = c.read_some-got.ensures in
-    let w : (1 ≤ c.in-Bytes.n) × (c.in-Bytes.n ≤ length c.loop-read.chunk) = rw c.in-Bytes.is at e in
-    (w.0, omega (arith, w.1, c.loop-read.invariant.1)) in
-    let full : length c.read_some-got.new.buf ≡ buffer_length = c.read_some-got.auto.buf ∙ c.loop-read.invariant.1 in
-    let as_many : length (take c.in-Bytes.n c.read_some-got.new.buf) ≡ c.in-Bytes.n = length-take-le c.in-Bytes.n c.read_some-got.new.buf (omega (arith, some.1, full)) in
-    let v = c.loop-read.invariant in
-    let t = c.loop-read-test.true in
-    record {
-      good_day = v.0.good;
-      len_le_partial_room = (v.0.partial, omega (arith, as_many, some.1, v.0.number, t));
-      chunk_len_bound = (omega (arith, as_many, some.1), v.2);
-    }
 
 pub overflow_add-read : goal.overflow_add-read
 unfolding buffer_length most_read Within

@@ -15,21 +15,6 @@ pub loop-used-init : goal.loop-used-init
 loop-used-init g c =
     (along_none c.args.d c.args.chunk.now c.requires.good_day c.requires.len_le_partial_room.0, refl)
 
-pub feed-f-requires : goal.feed-f-requires
-feed-f-requires g c =
-    let a = c.loop-used.invariant.0 in
-    record {
-      good_day = a.good;
-      len_le_partial_room = (a.partial, a.inside, omega arith);
-      chunk_bound = omega (arith, a.number, c.requires.len_le_partial_room.1);
-    }
-
-pub slice_bounds-write_all-end : goal.slice_bounds-write_all-end
-slice_bounds-write_all-end g c =
-    let same : length c.feed-f.new.out ≡ length c.loop-used.out = kept_length c.feed-f.ensures.taken_in in
-    let fits : c.feed-f.result.at ≤ length c.feed-f.new.out = omega (arith, c.feed-f.ensures.taken_in.fits, same) in
-    fits
-
 pub slice_bounds-write_all-end-in-loop-used : goal.slice_bounds-write_all-end-in-loop-used
 slice_bounds-write_all-end-in-loop-used g c =
     let same : length c.feed-f.new.out ≡ length c.loop-used.out = kept_length c.feed-f.ensures.taken_in in
@@ -41,12 +26,6 @@ unfolding answer_room buffer_length
 overflow_add-written g c =
     let v = c.loop-used.invariant in
     omega (arith, c.write_all-put.ensures, slice_bounds-write_all-end-in-loop-used g (goal.at.overflow_add-written g c).After-state-1, c.feed-f.ensures.taken_in.fits, v.1, v.0.few, v.0.inside, c.requires.chunk_len_bound.0, c.requires.chunk_len_bound.1)
-
-pub shape_of-out-then-put-n : goal.shape_of-out-then-put-n
-shape_of-out-then-put-n g c =
-    let same : length c.feed-f.new.out ≡ length c.loop-used.out = kept_length c.feed-f.ensures.taken_in in
-    let as_long : length c.feed-f.new.out ≡ length c.args.out.now = same ∙ c.loop-used.invariant.1 in
-    as_long
 
 pub returns-then-put-n : goal.returns-then-put-n
 returns-then-put-n g c =
