@@ -4,7 +4,7 @@
 ghost use Rattle.std.specs.Prelude.{◌≡◌, ◌≤◌, replicate};
 ghost use Rattle.lists.specs.Select.{every};
 ghost use Rattle.matching.specs.Windows.{most_jobs, is_window, windows_of};
-ghost use Rattle.matching.specs.Answer.{best_day, best_day_if};
+ghost use Rattle.matching.specs.Answer.{best_day};
 
 use matching::{BestDay, Jobs, Window};
 

@@ -3,7 +3,6 @@ use mathlib.Core.Path.{◌≡◌, refl, sym, subst}
 use Prim.Native.Nat.{◌+◌, ◌-◌, ◌^◌, ◌≤◌, ◌<◌}
 use native.Mathlib.Omega.{arith}
 use borrow.Author.Rules.{rules}
-use borrow.Author.Tests.{leb-true}
 use mathlib.Core.List.{[]}
 use lib.ListN.{length, take, drop}
 use Rattle.lists.proofs.Parts.{drop_take}
@@ -23,12 +22,34 @@ use Rattle.running.proofs.Stepping.Answering.{answered_by}
 use Rattle.running.proofs.Feeding.LineTaken.{whole_line}
 use Rattle.running.proofs.Feeding.Taken.{taken_none, taken_join}
 use Rattle.running.proofs.answering.feed_lines.Goals as goal
-use Rattle.running.proofs.answering.feed_lines.Goals.{At-loop-to, in-Board, in-Sheet}
+use Rattle.running.proofs.answering.feed_lines.Goals.{At-loop-to, After-step_line-s, in-Board, in-Sheet}
 
 forward : (c : At-loop-to) → c.loop-to.used ≤ c.loop-to.to
 forward c =
     let inside : c.loop-to.used ≤ length c.args.chunk.now = (c.loop-to.invariant.0 []).inside in
     omega (arith, c.loop-to.invariant.1, end_forward c.args.chunk.now c.loop-to.used inside)
+
+-- what `step_line` did, and that the lists that it was lent have an entry for every place
+did : (c : After-step_line-s) → let d = day_in c.loop-to.next c.loop-to.keys c.loop-to.tickets c.loop-to.admitted c.loop-to.counts in let e = c.step_line-s.new in Did d (step (session_of d).board (take (c.loop-to.to - c.loop-to.used) (drop c.loop-to.used c.args.chunk.now))) (stepped_in c.step_line-s.result e.keys e.tickets e.admitted e.counts)
+    e.expired e.grades
+unfolding none_begun stepped_in
+did c = let v = c.loop-to.invariant in c.step_line-s.ensures (v.0 []).good (v.2, v.3, v.4)
+
+expired_full : (c : After-step_line-s) → length c.step_line-s.new.expired ≡ places_held
+unfolding places_held
+expired_full c = omega (arith, c.step_line-s.auto.expired)
+
+grades_full : (c : After-step_line-s) → length c.step_line-s.new.grades ≡ places_held
+unfolding places_held
+grades_full c = omega (arith, c.step_line-s.auto.grades)
+
+in_tickets : (c : After-step_line-s) → c.step_line-s.result.listed ≤ length c.step_line-s.new.expired
+unfolding stepped_in
+in_tickets c = omega (arith, (did c).few, expired_full c)
+
+in_grades : (c : After-step_line-s) → c.step_line-s.result.listed ≤ length c.step_line-s.new.grades
+unfolding stepped_in
+in_grades c = omega (arith, (did c).few, grades_full c)
 
 pub loop-to-init : goal.loop-to-init
 unfolding none_begun line_end_from line_end places_held
@@ -54,116 +75,28 @@ pub slice_bounds-step_line-start : goal.slice_bounds-step_line-start
 slice_bounds-step_line-start c = forward (goal.at.slice_bounds-step_line-start c).At-loop-to
 
 pub slice_bounds-expired-end : goal.slice_bounds-expired-end
-unfolding places_held none_begun stepped_in
-slice_bounds-expired-end c =
-    let after =
-    let l = c.step_line-s.new in
-    stepped_in c.step_line-s.result l.keys l.tickets l.admitted l.counts in
-    let did : let d = day_in c.loop-to.next c.loop-to.keys c.loop-to.tickets c.loop-to.admitted c.loop-to.counts in let e = c.step_line-s.new in Did d (step (session_of d).board (take (c.loop-to.to - c.loop-to.used) (drop c.loop-to.used c.args.chunk.now))) after
-    e.expired e.grades =
-    let v = c.loop-to.invariant in
-    c.step_line-s.ensures (v.0 []).good (v.2, v.3, v.4) in
-    let tickets_full : length c.step_line-s.new.expired ≡ places_held = omega (arith, c.step_line-s.auto.expired) in
-    let in_tickets : c.step_line-s.result.listed ≤ length c.step_line-s.new.expired = omega (arith, did.few, tickets_full) in
-    in_tickets
+slice_bounds-expired-end c = in_tickets (goal.at.slice_bounds-expired-end c).After-step_line-s
 
 pub slice_bounds-print_lines-end : goal.slice_bounds-print_lines-end
-unfolding places_held none_begun stepped_in
-slice_bounds-print_lines-end c =
-    let after =
-    let l = c.step_line-s.new in
-    stepped_in c.step_line-s.result l.keys l.tickets l.admitted l.counts in
-    let did : let d = day_in c.loop-to.next c.loop-to.keys c.loop-to.tickets c.loop-to.admitted c.loop-to.counts in let e = c.step_line-s.new in Did d (step (session_of d).board (take (c.loop-to.to - c.loop-to.used) (drop c.loop-to.used c.args.chunk.now))) after
-    e.expired e.grades =
-    let v = c.loop-to.invariant in
-    c.step_line-s.ensures (v.0 []).good (v.2, v.3, v.4) in
-    let tickets_full : length c.step_line-s.new.expired ≡ places_held = omega (arith, c.step_line-s.auto.expired) in
-    let in_tickets : c.step_line-s.result.listed ≤ length c.step_line-s.new.expired = omega (arith, did.few, tickets_full) in
-    sym (length-take-le _ _ in_tickets)
+slice_bounds-print_lines-end c = sym (length-take-le _ _ (in_tickets (goal.at.slice_bounds-print_lines-end c).After-step_line-s))
 
 pub slice_bounds-grades-end : goal.slice_bounds-grades-end
-unfolding places_held none_begun stepped_in
-slice_bounds-grades-end c =
-    let after =
-    let l = c.step_line-s.new in
-    stepped_in c.step_line-s.result l.keys l.tickets l.admitted l.counts in
-    let did : let d = day_in c.loop-to.next c.loop-to.keys c.loop-to.tickets c.loop-to.admitted c.loop-to.counts in let e = c.step_line-s.new in Did d (step (session_of d).board (take (c.loop-to.to - c.loop-to.used) (drop c.loop-to.used c.args.chunk.now))) after
-    e.expired e.grades =
-    let v = c.loop-to.invariant in
-    c.step_line-s.ensures (v.0 []).good (v.2, v.3, v.4) in
-    let grades_full : length c.step_line-s.new.grades ≡ places_held = omega (arith, c.step_line-s.auto.grades) in
-    let in_grades : c.step_line-s.result.listed ≤ length c.step_line-s.new.grades = omega (arith, did.few, grades_full) in
-    in_grades
+slice_bounds-grades-end c = in_grades (goal.at.slice_bounds-grades-end c).After-step_line-s
 
 pub slice_bounds-print_lines-end-in-Board : goal.slice_bounds-print_lines-end-in-Board
-unfolding places_held none_begun stepped_in
-slice_bounds-print_lines-end-in-Board c =
-    let after =
-    let l = c.step_line-s.new in
-    stepped_in c.step_line-s.result l.keys l.tickets l.admitted l.counts in
-    let did : let d = day_in c.loop-to.next c.loop-to.keys c.loop-to.tickets c.loop-to.admitted c.loop-to.counts in let e = c.step_line-s.new in Did d (step (session_of d).board (take (c.loop-to.to - c.loop-to.used) (drop c.loop-to.used c.args.chunk.now))) after
-    e.expired e.grades =
-    let v = c.loop-to.invariant in
-    c.step_line-s.ensures (v.0 []).good (v.2, v.3, v.4) in
-    let grades_full : length c.step_line-s.new.grades ≡ places_held = omega (arith, c.step_line-s.auto.grades) in
-    let in_grades : c.step_line-s.result.listed ≤ length c.step_line-s.new.grades = omega (arith, did.few, grades_full) in
-    sym (length-take-le _ _ in_grades)
+slice_bounds-print_lines-end-in-Board c = sym (length-take-le _ _ (in_grades (goal.at.slice_bounds-print_lines-end-in-Board c).After-step_line-s))
 
 pub slice_bounds-expired-end-in-Sheet : goal.slice_bounds-expired-end-in-Sheet
-unfolding places_held none_begun stepped_in
-slice_bounds-expired-end-in-Sheet c =
-    let after =
-    let l = c.step_line-s.new in
-    stepped_in c.step_line-s.result l.keys l.tickets l.admitted l.counts in
-    let did : let d = day_in c.loop-to.next c.loop-to.keys c.loop-to.tickets c.loop-to.admitted c.loop-to.counts in let e = c.step_line-s.new in Did d (step (session_of d).board (take (c.loop-to.to - c.loop-to.used) (drop c.loop-to.used c.args.chunk.now))) after
-    e.expired e.grades =
-    let v = c.loop-to.invariant in
-    c.step_line-s.ensures (v.0 []).good (v.2, v.3, v.4) in
-    let tickets_full : length c.step_line-s.new.expired ≡ places_held = omega (arith, c.step_line-s.auto.expired) in
-    let in_tickets : c.step_line-s.result.listed ≤ length c.step_line-s.new.expired = omega (arith, did.few, tickets_full) in
-    in_tickets
+slice_bounds-expired-end-in-Sheet c = in_tickets (goal.at.slice_bounds-expired-end-in-Sheet c).After-step_line-s
 
 pub slice_bounds-print_by-end : goal.slice_bounds-print_by-end
-unfolding places_held none_begun stepped_in
-slice_bounds-print_by-end c =
-    let after =
-    let l = c.step_line-s.new in
-    stepped_in c.step_line-s.result l.keys l.tickets l.admitted l.counts in
-    let did : let d = day_in c.loop-to.next c.loop-to.keys c.loop-to.tickets c.loop-to.admitted c.loop-to.counts in let e = c.step_line-s.new in Did d (step (session_of d).board (take (c.loop-to.to - c.loop-to.used) (drop c.loop-to.used c.args.chunk.now))) after
-    e.expired e.grades =
-    let v = c.loop-to.invariant in
-    c.step_line-s.ensures (v.0 []).good (v.2, v.3, v.4) in
-    let tickets_full : length c.step_line-s.new.expired ≡ places_held = omega (arith, c.step_line-s.auto.expired) in
-    let in_tickets : c.step_line-s.result.listed ≤ length c.step_line-s.new.expired = omega (arith, did.few, tickets_full) in
-    sym (length-take-le _ _ in_tickets)
+slice_bounds-print_by-end c = sym (length-take-le _ _ (in_tickets (goal.at.slice_bounds-print_by-end c).After-step_line-s))
 
 pub slice_bounds-grades-end-in-Sheet : goal.slice_bounds-grades-end-in-Sheet
-unfolding places_held none_begun stepped_in
-slice_bounds-grades-end-in-Sheet c =
-    let after =
-    let l = c.step_line-s.new in
-    stepped_in c.step_line-s.result l.keys l.tickets l.admitted l.counts in
-    let did : let d = day_in c.loop-to.next c.loop-to.keys c.loop-to.tickets c.loop-to.admitted c.loop-to.counts in let e = c.step_line-s.new in Did d (step (session_of d).board (take (c.loop-to.to - c.loop-to.used) (drop c.loop-to.used c.args.chunk.now))) after
-    e.expired e.grades =
-    let v = c.loop-to.invariant in
-    c.step_line-s.ensures (v.0 []).good (v.2, v.3, v.4) in
-    let grades_full : length c.step_line-s.new.grades ≡ places_held = omega (arith, c.step_line-s.auto.grades) in
-    let in_grades : c.step_line-s.result.listed ≤ length c.step_line-s.new.grades = omega (arith, did.few, grades_full) in
-    in_grades
+slice_bounds-grades-end-in-Sheet c = in_grades (goal.at.slice_bounds-grades-end-in-Sheet c).After-step_line-s
 
 pub slice_bounds-print_by-end-in-Sheet : goal.slice_bounds-print_by-end-in-Sheet
-unfolding places_held none_begun stepped_in
-slice_bounds-print_by-end-in-Sheet c =
-    let after =
-    let l = c.step_line-s.new in
-    stepped_in c.step_line-s.result l.keys l.tickets l.admitted l.counts in
-    let did : let d = day_in c.loop-to.next c.loop-to.keys c.loop-to.tickets c.loop-to.admitted c.loop-to.counts in let e = c.step_line-s.new in Did d (step (session_of d).board (take (c.loop-to.to - c.loop-to.used) (drop c.loop-to.used c.args.chunk.now))) after
-    e.expired e.grades =
-    let v = c.loop-to.invariant in
-    c.step_line-s.ensures (v.0 []).good (v.2, v.3, v.4) in
-    let grades_full : length c.step_line-s.new.grades ≡ places_held = omega (arith, c.step_line-s.auto.grades) in
-    let in_grades : c.step_line-s.result.listed ≤ length c.step_line-s.new.grades = omega (arith, did.few, grades_full) in
-    sym (length-take-le _ _ in_grades)
+slice_bounds-print_by-end-in-Sheet c = sym (length-take-le _ _ (in_grades (goal.at.slice_bounds-print_by-end-in-Sheet c).After-step_line-s))
 
 pub loop-to-smaller : goal.loop-to-smaller
 loop-to-smaller c =
@@ -173,17 +106,14 @@ pub loop-to-preserved : goal.loop-to-preserved
 unfolding none_begun stepped_in line_end_from line_end places_held answer_room part
 loop-to-preserved c =
     let inside : c.loop-to.used ≤ length c.args.chunk.now = (c.loop-to.invariant.0 []).inside in
+    let s = (goal.at.loop-to-preserved c).After-step_line-s in
     let after =
     let l = c.step_line-s.new in
     stepped_in c.step_line-s.result l.keys l.tickets l.admitted l.counts in
-    let did : let d = day_in c.loop-to.next c.loop-to.keys c.loop-to.tickets c.loop-to.admitted c.loop-to.counts in let e = c.step_line-s.new in Did d (step (session_of d).board (take (c.loop-to.to - c.loop-to.used) (drop c.loop-to.used c.args.chunk.now))) after
-    e.expired e.grades =
-    let v = c.loop-to.invariant in
-    c.step_line-s.ensures (v.0 []).good (v.2, v.3, v.4) in
-    let tickets_full : length c.step_line-s.new.expired ≡ places_held = omega (arith, c.step_line-s.auto.expired) in
-    let grades_full : length c.step_line-s.new.grades ≡ places_held = omega (arith, c.step_line-s.auto.grades) in
+    let tickets_full = expired_full s in
+    let all_grades = grades_full s in
     let slots_full : length c.step_line-s.new.slots ≡ places_held = omega (arith, c.step_line-s.auto.slots) in
-    let room : c.loop-to.end + answer_room ≤ length c.loop-to.out = leb-true _ _ c.if-end-out.true-raw in
+    let room : c.loop-to.end + answer_room ≤ length c.loop-to.out = omega arith in
     let turned : let a = c.args in let T = take c.step_line-s.result.listed c.step_line-s.new.expired in let G = take c.step_line-s.result.listed c.step_line-s.new.grades in (p : Printed) → (out' : Bytes) → PrintedIf (answer_fits (length T) (length G) c.loop-to.end (length c.loop-to.out)) c.loop-to.known c.step_line-s.result.answer T G c.loop-to.out c.loop-to.end p out' → (bytes : Bytes) → TakenIn (none_begun a.day a.printer a.keys.now a.tickets.now a.admitted.now a.counts.now bytes) a.chunk.now a.from a.out.now a.at
     (record { state = record { day = after.day; printer = p.printer; partial = record { bytes = bytes; len = 0 } }; used = c.loop-to.to + 1; at = p.at }) out' =
     λ p out' printed bytes. let a = c.args in
@@ -195,7 +125,7 @@ loop-to-preserved c =
     (subst
     (λ (line : Bytes). Answered (day_in c.loop-to.next c.loop-to.keys c.loop-to.tickets c.loop-to.admitted c.loop-to.counts) c.loop-to.known line c.loop-to.out c.loop-to.end (record { day = after.day; printer = p.printer; at = p.at }) out')
     (sym (drop_take c.loop-to.used c.loop-to.to a.chunk.now))
-    (answered_by (day_in c.loop-to.next c.loop-to.keys c.loop-to.tickets c.loop-to.admitted c.loop-to.counts) c.loop-to.known (take (c.loop-to.to - c.loop-to.used) (drop c.loop-to.used a.chunk.now)) c.loop-to.out c.loop-to.end after _ _ did tickets_full grades_full p out' room few printed))
+    (answered_by (day_in c.loop-to.next c.loop-to.keys c.loop-to.tickets c.loop-to.admitted c.loop-to.counts) c.loop-to.known (take (c.loop-to.to - c.loop-to.used) (drop c.loop-to.used a.chunk.now)) c.loop-to.out c.loop-to.end after _ _ (did s) tickets_full all_grades p out' room few printed))
     room) in
     let k = c.loop-to.known in
     elim c.match-program.branch [
@@ -205,14 +135,14 @@ loop-to-preserved c =
             turned (record { printer = record { program = k.program; number = p.result.number; page = k.page }; at = p.result.at }) _ (p.ensures k w.in-Board.is refl),
             c.next_byte-to-in-loop-to.ensures,
             tickets_full,
-            grades_full,
+            all_grades,
             slots_full,
             c.loop-to.invariant.5,
           )
       | in-Sheet w ↦
           let p = w.print_by-p in
           rw (w.known-is, w.end-is, w.out-is)
-          (turned p.result _ p.ensures, c.next_byte-to-in-loop-to.ensures, tickets_full, grades_full, slots_full, c.loop-to.invariant.5)
+          (turned p.result _ p.ensures, c.next_byte-to-in-loop-to.ensures, tickets_full, all_grades, slots_full, c.loop-to.invariant.5)
     ]
 
 pub returns-else-end-out : goal.returns-else-end-out

@@ -1,7 +1,7 @@
 -- `feed`: what was taken in, then a line or the rest of one, then the lines that end in the chunk.
 use Prim.Native.Nat.{◌+◌, ◌≤◌, ◌<◌}
 use native.Mathlib.Omega.{arith}
-use borrow.Author.Tests.{leb-true, leb-false}
+use borrow.Author.Tests.{leb-false}
 use lib.ListN.{length}
 use Rattle.answers.specs.Printed.{answer_room}
 use Rattle.running.proofs.Feeding.Taken.{taken_none, kept_length, taken_join, stops_full}
@@ -16,7 +16,7 @@ loop-used-init c =
 pub feed_part-part-requires : goal.feed_part-part-requires
 unfolding answer_room
 feed_part-part-requires c =
-    let room : c.loop-used.end + answer_room ≤ length c.loop-used.out = leb-true _ _ c.if-end-out.true-raw in
+    let room : c.loop-used.end + answer_room ≤ length c.loop-used.out = omega arith in
     let v = c.loop-used.invariant in
     record {
       good_day = v.good;
