@@ -1,5 +1,6 @@
 pub mod Limits
 pub mod Rows
+pub mod Refusals
 pub mod Held
 pub mod Sound
 pub mod Open
@@ -10,3 +11,4 @@ pub mod Promise
 pub mod Withdraw
 pub mod Tally
 pub mod Events
+pub mod Kinds

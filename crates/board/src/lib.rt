@@ -8,6 +8,12 @@ ghost use Rattle.board.specs.Open.{opened};
 ghost use Rattle.board.specs.Tally.{tally_kinds, tally_grades, tally_most};
 ghost use Rattle.board.specs.Events.{admitted_kind, baked_kind, given_up_kind, withdrawn_kind};
 
+pub mod kind;
+pub mod refusal;
+
+pub use kind::Kind;
+pub use refusal::Refusal;
+
 // A number of slots counted from the present one: 01's wait, 000's laxity.
 #[repr(C)]
 #[derive(Clone, Copy)]
