@@ -1,9 +1,9 @@
-// The board's jobs as three arrays of numbers, and a board's other numbers beside them. A function can be lent such arrays and write them in place, where a
-// board passes by value. The key of a job is its last slot and its grade in one number.
+// A board whose jobs lie in three arrays of numbers. A function can be lent it and write it in place, where a board passes by value, and a walk along the keys
+// reads nothing else. The key of a job is its last slot and its grade in one number.
 #![tactic(auto)]
 
 ghost use Rattle.std.specs.Prelude.{◌≡◌};
-ghost use Rattle.packing.specs.Inner.Packed.{key_of, place_of, board_in, packable};
+ghost use Rattle.packing.specs.Inner.Packed.{key_of, place_of, board_of, packable};
 
 use board::{Board, Place, Slot, Tally};
 
@@ -14,6 +14,15 @@ pub struct Head {
     pub slot: Slot,
     pub highest: u32,
     pub count: usize,
+}
+
+// A board in arrays: the keys, tickets and admitted slots of its jobs are the first `count` of each.
+#[derive(Clone, Copy)]
+pub struct Packed {
+    pub head: Head,
+    pub keys: [u32; Board::PLACES],
+    pub tickets: [u32; Board::PLACES],
+    pub admitted: [u32; Board::PLACES],
 }
 
 // Last slots that a key can hold.
@@ -40,56 +49,43 @@ pub fn place(key: u32, ticket: u32, admitted: u32) -> Place
     }
 }
 
-// Does nothing. Of arrays that are lent to it as slices a proof learns that they have all their places.
-pub fn all_places(keys: &[u32], tickets: &[u32], admitted: &[u32]) {}
-
-// A board put into the arrays, as far as they can hold it; of a sound board that is all.
-pub fn unpack(
-    b: Board,
-    keys: &mut [u32; Board::PLACES],
-    tickets: &mut [u32; Board::PLACES],
-    admitted: &mut [u32; Board::PLACES],
-) -> Head
-    ensures { board_in result keys.new tickets.new admitted.new ≡ packable b }
+// A board put into arrays, as far as they can hold it; of a sound board that is all.
+pub fn unpack(b: &Board) -> Packed
+    ensures { board_of result ≡ packable b.now }
 {
-    all_places(keys, tickets, admitted);
-    let count = lists::lesser(b.count, Board::PLACES);
-    let mut i: usize = 0;
-    while i < count {
-        let p = b.places[i];
-        keys[i] = key(p.last, p.grade);
-        tickets[i] = p.ticket;
-        admitted[i] = p.admitted.0;
-        i += 1;
-    }
-    Head {
+    let head = Head {
         depth: b.depth,
         slot: b.slot,
         highest: b.highest,
         count: b.count,
+    };
+    let mut packed = Packed {
+        head,
+        keys: [0; Board::PLACES],
+        tickets: [0; Board::PLACES],
+        admitted: [0; Board::PLACES],
+    };
+    for i in 0..b.count.min(Board::PLACES) {
+        let p = b.places[i];
+        packed.keys[i] = key(p.last, p.grade);
+        packed.tickets[i] = p.ticket;
+        packed.admitted[i] = p.admitted.0;
     }
+    packed
 }
 
 // The board that the arrays hold.
-pub fn pack(
-    head: Head,
-    keys: &[u32; Board::PLACES],
-    tickets: &[u32; Board::PLACES],
-    admitted: &[u32; Board::PLACES],
-) -> Board
-    ensures { result ≡ board_in head keys.now tickets.now admitted.now }
+pub fn pack(packed: &Packed) -> Board
+    ensures { result ≡ board_of packed.now }
 {
-    let count = lists::lesser(head.count, Board::PLACES);
+    let head = packed.head;
     let mut places = [Place::blank(); Board::PLACES];
-    let mut i: usize = 0;
-    while i < count {
-        places[i] = place(keys[i], tickets[i], admitted[i]);
-        i += 1;
+    for i in 0..head.count.min(Board::PLACES) {
+        places[i] = place(packed.keys[i], packed.tickets[i], packed.admitted[i]);
     }
-    let slot = head.slot;
     Board {
         depth: head.depth,
-        slot,
+        slot: head.slot,
         highest: head.highest,
         count: head.count,
         places,

@@ -5,7 +5,7 @@ use Rattle.packing.proofs.pack.Goals as goal
 
 pub loop-i-init : goal.loop-i-init
 unfolding places_held
-loop-i-init c = taken_none c.args.head _ _ _ c.lesser-count.result c.blank-places.result c.lesser-count.ensures c.blank-places.ensures
+loop-i-init c = taken_none _ _ _ _ _ c.blank-places.result c.min-i-end.ensures c.blank-places.ensures
 
 pub loop-i-preserved : goal.loop-i-preserved
 loop-i-preserved c = taken_more c.loop-i.invariant c.place.result c.place.ensures c.loop-i-test.true

@@ -1,9 +1,5 @@
-use Prim.Native.Nat.{◌-◌}
 use Rattle.packing.proofs.Moving.{Taken}
 use Rattle.packing.proofs.pack.Given as goal
 
 abbrev pub invariant-loop-i : goal.invariant-loop-i
-invariant-loop-i l = Taken l.head l.keys l.tickets l.admitted l.count l.i l.places
-
-abbrev pub decreases-loop-i : goal.decreases-loop-i
-decreases-loop-i l = l.count - l.i
+invariant-loop-i l = Taken l.packed.head l.packed.keys l.packed.tickets l.packed.admitted l.i-end l.i l.places

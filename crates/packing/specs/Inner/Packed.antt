@@ -6,6 +6,7 @@ use Rattle.board.specs.Limits.{places_held}
 use Rattle.board.specs.Tally.{tally_grades}
 use Rattle.board.specs.Held.{slot_number, blank}
 use Rattle.packing.specs.declared.Head.{Head}
+use Rattle.packing.specs.declared.Packed.{Packed}
 
 -- a last slot and a grade in one number; last slots from 2^29 on and grades of no depth begin again at 0
 unfoldable pub key_of : (last grade : ℕ) → ℕ
@@ -36,6 +37,9 @@ filled_up n ps = ps ++ replicate (places_held - n) blank
 unfoldable pub board_in : Head → (keys tickets admitted : List ℕ) → Board
 board_in h K T A =
     record { depth = h.depth; slot = h.slot; highest = h.highest; count = h.count; places = filled_up (in_use h.count) (places_in (in_use h.count) K T A) }
+
+abbrev pub board_of : Packed → Board
+board_of p = board_in p.head p.keys p.tickets p.admitted
 
 -- a place as the arrays can hold it
 unfoldable pub packed : Place → Place
