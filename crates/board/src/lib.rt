@@ -4,7 +4,7 @@
 ghost use Rattle.std.specs.Prelude.{◌≡◌, ◌^◌, min};
 ghost use Rattle.board.specs.Limits.{longest_laxity, most_in_slot, places_held, last_slot, deepest};
 ghost use Rattle.board.specs.Held.{blank};
-ghost use Rattle.board.specs.Open.{opened};
+ghost use Rattle.board.specs.Open.{empty_board, opened_as, opened};
 ghost use Rattle.board.specs.Tally.{tally_kinds, tally_grades, tally_most};
 ghost use Rattle.board.specs.Events.{admitted_kind, baked_kind, given_up_kind, withdrawn_kind};
 
@@ -85,24 +85,43 @@ impl Board {
         1u32 << Board::DEEPEST
     }
 
-    // A new board of this depth; refusal 1 and a board all zero where the depth is above 3.
-    pub fn open(depth: u32) -> Opened
-        ensures { result ≡ opened depth }
+    // A board all zero, of no depth, slot or job.
+    fn zero() -> Board
+        ensures { result ≡ empty_board 0 0 0 }
     {
-        let places = [Place::blank(); Board::PLACES];
-        let mut board = Board {
+        Board {
             depth: 0,
             slot: Slot(0),
             highest: 0,
             count: 0,
-            places,
-        };
-        if Board::DEEPEST < depth {
-            return Opened { refusal: 1, board };
+            places: [Place::blank(); Board::PLACES],
         }
+    }
+
+    // A new board of this depth; refused where the depth is above the greatest.
+    pub fn new(depth: u32) -> Result<Board, Refusal>
+        ensures { opened_as result ≡ opened depth }
+    {
+        if Board::DEEPEST < depth {
+            return Err(Refusal::TooDeep);
+        }
+        let mut board = Board::zero();
         board.depth = depth as u8;
         board.slot.0 = 1;
-        Opened { refusal: 0, board }
+        Ok(board)
+    }
+
+    // The same as C has it: refusal 1 and a board all zero where the depth is above the greatest.
+    pub fn open(depth: u32) -> Opened
+        ensures { result ≡ opened depth }
+    {
+        match Board::new(depth) {
+            Ok(board) => Opened { refusal: 0, board },
+            Err(refusal) => Opened {
+                refusal: refusal.number(),
+                board: Board::zero(),
+            },
+        }
     }
 }
 

@@ -1,244 +1,151 @@
-// What a line does to the day. While lines are answered the day's jobs and counts lie in arrays, which are written in place.
+// What a line does to the day.
 #![tactic(auto)]
 
-ghost use Rattle.std.specs.Prelude.{◌≡◌, true, List, ℕ};
+ghost use Rattle.std.specs.Prelude.{◌≡◌, true};
+ghost use Rattle.board.specs.Sound.{sound};
 ghost use Rattle.lines.specs.Fields.{grade_meant};
 ghost use Rattle.lines.specs.Session.{step_open, step_admit, step_close, step_promise, step_withdraw, step};
 ghost use Rattle.fields.specs.Grades.{grade_of};
-ghost use Rattle.session.specs.Inner.Days.{session_of, GoodDay, day_in, stepped_in, refused_day, Did, DidAlone, Room};
+ghost use Rattle.packing.specs.Inner.Packed.{board_of};
+ghost use Rattle.session.specs.Inner.Days.{session_of, GoodDay, open_day, stepped_to, answered_to, Did, DidAlone, Room};
 
 use answers::{Answer, Closing};
-use board::{Board, Laxity, Tally};
+use board::{Board, Laxity, Refusal, Tally};
 use fields::grades::{Grade, grade_meant};
-use packing::Head;
+use packing::Packed;
 use requests::Asked;
 
-// The board, if one is open, and the tally.
+// The board, if one is open, in arrays that are written in place; and the tally.
 #[derive(Clone, Copy)]
 pub struct Day {
-    pub opened: bool,
-    pub board: Board,
+    pub board: Option<Packed>,
     pub tally: Tally,
 }
 
-// A day whose jobs and counts lie in arrays: what it holds beside them.
-#[derive(Clone, Copy)]
-pub struct DayHead {
-    pub opened: bool,
-    pub head: Head,
-}
-
-// The day after a line, what the line is answered, and how many jobs given up stand in the lists.
+// What a line is answered, and how many jobs given up stand in the lists.
 #[derive(Clone, Copy)]
 pub struct Stepped {
-    pub day: DayHead,
     pub answer: Answer,
     pub listed: usize,
 }
 
-// A line that is refused: the day is as it was.
-fn refuse(day: DayHead, number: u8) -> Stepped
-    ensures { result ≡ refused_day day number }
-{
-    let answer = Answer::Refused(number);
-    Stepped {
-        day,
-        answer,
-        listed: 0,
-    }
-}
-
 // A line that opens.
-fn open_line(
-    day: DayHead,
-    depth: u32,
-    keys: &mut [u32; Board::PLACES],
-    tickets: &mut [u32; Board::PLACES],
-    admitted: &mut [u32; Board::PLACES],
-    counts: &mut [u32; Tally::COUNTS],
-) -> Stepped
-    ensures { let d = day_in day keys.old tickets.old admitted.old counts.old in
-        let r' = stepped_in result keys.new tickets.new admitted.new counts.new in
-        (GoodDay d → DidAlone d (step_open (session_of d).board depth) r') }
+fn open_line(day: &mut Day, depth: u32) -> Result<Answer, Refusal>
+    ensures { GoodDay day.old → DidAlone day.old (step_open (session_of day.old).board depth) (answered_to result day.new) }
 {
-    let o = Board::open(depth);
-    if o.refusal != 0 {
-        return refuse(day, o.refusal);
-    }
-    let board = o.board;
-    let head = packing::unpack(board, keys, tickets, admitted);
-    let next = DayHead { opened: true, head };
-    let answer = Answer::Opened(depth);
-    Stepped {
-        day: next,
-        answer,
-        listed: 0,
-    }
+    let board = Board::new(depth)?;
+    day.board = Some(packing::unpack(&board));
+    Ok(Answer::Opened(depth))
 }
 
 // A line that admits, with the grade that it means on the open board.
 fn admit_line(
-    day: DayHead,
+    board: &mut Packed,
+    tally: &mut Tally,
     ticket: u32,
     laxity: Laxity,
     grade: Grade,
-    keys: &mut [u32; Board::PLACES],
-    tickets: &mut [u32; Board::PLACES],
-    admitted: &mut [u32; Board::PLACES],
-    counts: &mut [u32; Tally::COUNTS],
-) -> Stepped
-    requires { day.opened ≡ true }
-    ensures { let d = day_in day keys.old tickets.old admitted.old counts.old in
-        let r' = stepped_in result keys.new tickets.new admitted.new counts.new in
-        (GoodDay d → DidAlone d (step_admit d.board ticket laxity.0 (grade_meant d.board.depth (grade_of grade))) r') }
+) -> Result<Answer, Refusal>
+    ensures { let b = board_of board.old in
+        let step = step_admit b ticket laxity.0 (grade_meant b.depth (grade_of grade)) in
+        (sound b ≡ true → DidAlone (open_day board.old tally.old) step (answered_to result (open_day board.new tally.new))) }
 {
-    let head = day.head;
-    let meant = grade_meant(head.depth, grade);
-    let a = placing::admit_packed(head, keys, tickets, admitted, ticket, laxity, meant);
-    let after = a.head;
-    let next = DayHead {
-        opened: true,
-        head: after,
-    };
-    if a.refusal != 0 {
-        return refuse(next, a.refusal);
-    }
-    events::count_admitted(counts, meant);
-    let last = a.last;
-    let answer = Answer::Admitted(ticket, last);
-    Stepped {
-        day: next,
-        answer,
-        listed: 0,
-    }
+    let meant = grade_meant(board.head.depth, grade);
+    let last = placing::admit_packed(board, ticket, laxity, meant)?;
+    events::count_admitted(tally, meant);
+    Ok(Answer::Admitted(ticket, last))
 }
 
 // A line that closes. The jobs given up are the first in the lists.
 fn close_line(
-    day: DayHead,
-    keys: &mut [u32; Board::PLACES],
-    tickets: &mut [u32; Board::PLACES],
-    admitted: &mut [u32; Board::PLACES],
-    counts: &mut [u32; Tally::COUNTS],
+    board: &mut Packed,
+    tally: &mut Tally,
     expired: &mut [u32],
     grades: &mut [u8],
     slots: &mut [u32],
-) -> Stepped
-    requires { day.opened ≡ true }
-    ensures { let d = day_in day keys.old tickets.old admitted.old counts.old in
-        let r' = stepped_in result keys.new tickets.new admitted.new counts.new in
-        (GoodDay d → Room expired.old grades.old slots.old →
-        Did d (step_close d.board) r' expired.new grades.new) }
+) -> Result<Stepped, Refusal>
+    ensures { let b = board_of board.old in
+        let r = stepped_to result (open_day board.new tally.new) in
+        (sound b ≡ true → Room expired.old grades.old slots.old → Did (open_day board.old tally.old) (step_close b) r expired.new grades.new) }
 {
-    let head = day.head;
-    let c = closing::close_packed(head, keys, tickets, admitted, expired, grades, slots);
-    let after = c.head;
-    let next = DayHead {
-        opened: true,
-        head: after,
-    };
-    if c.refusal != 0 {
-        return refuse(next, c.refusal);
-    }
-    let n = c.listed as usize;
-    events::count_baked(counts, c.ticket, c.grade);
-    events::count_given_up(counts, &grades[..n]);
-    let slot = head.slot;
+    let slot = board.head.slot;
+    let c = closing::close_packed(board, expired, grades, slots)?;
+    let listed = c.listed as usize;
+    events::count_baked(tally, c.ticket, c.grade);
+    events::count_given_up(tally, &grades[..listed]);
     let closing = Closing {
         slot,
         ticket: c.ticket,
         grade: c.grade,
         shortfall: c.shortfall,
     };
-    let answer = Answer::Closed(closing);
-    Stepped {
-        day: next,
-        answer,
-        listed: n,
-    }
+    Ok(Stepped {
+        answer: Answer::Closed(closing),
+        listed,
+    })
 }
 
-// A line that asks what can be promised: the day is as it was.
-fn promise_line(day: DayHead, keys: &[u32; Board::PLACES]) -> Stepped
-    requires { day.opened ≡ true }
-    ensures { (T A C : List ℕ) → let d = day_in day keys.now T A C in
-        GoodDay d → DidAlone d (step_promise d.board) (stepped_in result keys.now T A C) }
+// A line that asks what can be promised: the day is as it was. 0 says that nothing can.
+fn promise_line(board: &Packed) -> Result<Answer, Refusal>
+    ensures { let b = board_of board.now in
+        ((t : Tally) → sound b ≡ true → DidAlone (open_day board.now t) (step_promise b) (answered_to result (open_day board.now t))) }
 {
-    let head = day.head;
-    let p = promising::promise_packed(head, keys);
-    if p.refusal != 0 {
-        return refuse(day, p.refusal);
-    }
-    let laxity = p.laxity;
-    let answer = Answer::Promised(laxity);
-    Stepped {
-        day,
-        answer,
-        listed: 0,
-    }
+    let laxity = promising::promise_packed(board)?;
+    Ok(Answer::Promised(laxity.unwrap_or(Laxity(0))))
 }
 
 // A line that withdraws. It is rare, so the board is handed over as a whole.
-fn withdraw_line(
-    day: DayHead,
-    ticket: u32,
-    keys: &mut [u32; Board::PLACES],
-    tickets: &mut [u32; Board::PLACES],
-    admitted: &mut [u32; Board::PLACES],
-    counts: &mut [u32; Tally::COUNTS],
-) -> Stepped
-    requires { day.opened ≡ true }
-    ensures { let d = day_in day keys.old tickets.old admitted.old counts.old in
-        let r' = stepped_in result keys.new tickets.new admitted.new counts.new in
-        (GoodDay d → DidAlone d (step_withdraw d.board ticket) r') }
+fn withdraw_line(board: &mut Packed, tally: &mut Tally, ticket: u32) -> Result<Answer, Refusal>
+    ensures { let b = board_of board.old in
+        (sound b ≡ true → DidAlone (open_day board.old tally.old) (step_withdraw b ticket) (answered_to result (open_day board.new tally.new))) }
 {
-    let head = day.head;
-    let b = packing::pack(head, keys, tickets, admitted);
-    let w = withdrawing::withdraw_by_rows(b, ticket);
-    if w.refusal != 0 {
-        return refuse(day, w.refusal);
-    }
-    events::count_withdrawn(counts, w.grade);
-    let board = w.board;
-    let after = packing::unpack(board, keys, tickets, admitted);
-    let next = DayHead {
-        opened: true,
-        head: after,
+    let mut held = packing::pack(board);
+    let grade = withdrawing::withdraw_by_rows(&mut held, ticket)?;
+    events::count_withdrawn(tally, grade);
+    *board = packing::unpack(&held);
+    Ok(Answer::Withdrawn(ticket))
+}
+
+// What a line does that is not refused, or why it is.
+fn do_line(
+    day: &mut Day,
+    line: &[u8],
+    expired: &mut [u32],
+    grades: &mut [u8],
+    slots: &mut [u32],
+) -> Result<Stepped, Refusal>
+    ensures { let r = stepped_to result day.new in
+        (GoodDay day.old → Room expired.old grades.old slots.old → Did day.old (step (session_of day.old).board line.now) r expired.new grades.new) }
+{
+    let asked = reading::read_line(line, day.board.is_some())?;
+    let tally = &mut day.tally;
+    let answer = match (asked, &mut day.board) {
+        (Asked::Open(depth), _) => open_line(day, depth)?,
+        (Asked::Admit(ticket, laxity, grade), Some(board)) => admit_line(board, tally, ticket, laxity, grade)?,
+        (Asked::Close, Some(board)) => return close_line(board, tally, expired, grades, slots),
+        (Asked::Promise, Some(board)) => promise_line(board)?,
+        (Asked::Withdraw(ticket), Some(board)) => withdraw_line(board, tally, ticket)?,
+        (_, None) => unreachable!(),
     };
-    let answer = Answer::Withdrawn(ticket);
-    Stepped {
-        day: next,
-        answer,
-        listed: 0,
-    }
+    Ok(Stepped { answer, listed: 0 })
 }
 
 // What a line does, the line end not among its bytes.
 pub fn step_line(
-    day: DayHead,
+    day: &mut Day,
     line: &[u8],
-    keys: &mut [u32; Board::PLACES],
-    tickets: &mut [u32; Board::PLACES],
-    admitted: &mut [u32; Board::PLACES],
-    counts: &mut [u32; Tally::COUNTS],
     expired: &mut [u32],
     grades: &mut [u8],
     slots: &mut [u32],
 ) -> Stepped
-    ensures { let d = day_in day keys.old tickets.old admitted.old counts.old in
-        let r' = stepped_in result keys.new tickets.new admitted.new counts.new in
-        (GoodDay d → Room expired.old grades.old slots.old →
-        Did d (step (session_of d).board line.now) r' expired.new grades.new) }
+    ensures { let r = record { day = day.new; answer = result.answer; listed = result.listed } in
+        (GoodDay day.old → Room expired.old grades.old slots.old → Did day.old (step (session_of day.old).board line.now) r expired.new grades.new) }
 {
-    let asked = reading::read_line(line, day.opened);
-    match asked {
-        Asked::Open(depth) => open_line(day, depth, keys, tickets, admitted, counts),
-        Asked::Admit(ticket, laxity, grade) => admit_line(
-            day, ticket, laxity, grade, keys, tickets, admitted, counts,
-        ),
-        Asked::Close => close_line(day, keys, tickets, admitted, counts, expired, grades, slots),
-        Asked::Promise => promise_line(day, keys),
-        Asked::Withdraw(ticket) => withdraw_line(day, ticket, keys, tickets, admitted, counts),
-        Asked::Refused(n) => refuse(day, n),
+    match do_line(day, line, expired, grades, slots) {
+        Ok(stepped) => stepped,
+        Err(refusal) => Stepped {
+            answer: Answer::Refused(refusal.number()),
+            listed: 0,
+        },
     }
 }

@@ -1,27 +1,40 @@
 -- The day that the program holds between two lines, as a session; and what a line does.
-use Rattle.std.specs.Prelude.{◌≡◌, true, cond, List, ℕ, ◌≤◌, length, take}
-use Rattle.std.proofs.Math.Option.{none, some}
+use Rattle.std.specs.Prelude.{◌≡◌, true, Bool, List, ℕ, ◌≤◌, length, take, Result, Ok, Err, Option, Some, None}
+use Rattle.std.proofs.Math.Option.{Option as OptionHeld, none, some}
+use Rattle.board.specs.declared.Board.{Board}
+use Rattle.board.specs.declared.Tally.{Tally}
+use Rattle.board.specs.declared.refusal.Refusal.{Refusal}
 use Rattle.board.specs.Limits.{places_held}
 use Rattle.board.specs.Sound.{sound}
+use Rattle.board.specs.Refusals.{number_of}
 use Rattle.lines.specs.Session.{Session, Step, session_after}
 use Rattle.answers.specs.Printed.{answer_of}
 use Rattle.answers.specs.declared.Answer.{Answer as AnswerHeld}
 use Rattle.answers.specs.declared.Answer.TheVariants.{Refused}
-use Rattle.packing.specs.Inner.Packed.{board_in}
+use Rattle.packing.specs.declared.Packed.{Packed}
+use Rattle.packing.specs.Inner.Packed.{board_of}
 use Rattle.session.specs.declared.Day.{Day}
-use Rattle.session.specs.declared.DayHead.{DayHead}
 use Rattle.session.specs.declared.Stepped.{Stepped}
 
+-- the board that is open, if one is
+abbrev pub board_held : Option Packed → OptionHeld Board
+board_held None = none
+board_held (Some p) = some (board_of p)
+
 unfoldable pub session_of : Day → Session
-session_of d = record { board = cond d.opened (some d.board) none; tally = d.tally }
+session_of d = record { board = board_held d.board; tally = d.tally }
+
+abbrev pub sound_held : Option Packed → Bool
+sound_held None = true
+sound_held (Some p) = sound (board_of p)
 
 -- an open board is sound
 unfoldable pub GoodDay : Day → Type 0
-GoodDay d = d.opened ≡ true → sound d.board ≡ true
+GoodDay d = sound_held d.board ≡ true
 
--- the day that arrays hold, with what it holds beside them
-unfoldable pub day_in : DayHead → (keys tickets admitted counts : List ℕ) → Day
-day_in d K T A C = record { opened = d.opened; board = board_in d.head K T A; tally = record { counts = C } }
+-- the day while a board is open
+abbrev pub open_day : Packed → Tally → Day
+open_day p t = record { board = Some p; tally = t }
 
 -- the day after a line, its answer, and how many jobs given up stand in the lists
 pub record SteppedDay : Type 0 where
@@ -29,12 +42,15 @@ pub record SteppedDay : Type 0 where
   pub answer : AnswerHeld
   pub listed : ℕ
 
-unfoldable pub stepped_in : Stepped → (keys tickets admitted counts : List ℕ) → SteppedDay
-stepped_in r K T A C = record { day = day_in r.day K T A C; answer = r.answer; listed = r.listed }
+-- a line done and the day after it; a refusal is answered with its number
+abbrev pub stepped_to : Result Stepped Refusal → Day → SteppedDay
+stepped_to (Ok r) d = record { day = d; answer = r.answer; listed = r.listed }
+stepped_to (Err r) d = record { day = d; answer = Refused (number_of r); listed = 0 }
 
--- a line that is refused with this number
-unfoldable pub refused_day : DayHead → (number : ℕ) → Stepped
-refused_day d n = record { day = d; answer = Refused n; listed = 0 }
+-- so for a line that lists no jobs
+abbrev pub answered_to : Result AnswerHeld Refusal → Day → SteppedDay
+answered_to (Ok x) d = record { day = d; answer = x; listed = 0 }
+answered_to (Err r) d = record { day = d; answer = Refused (number_of r); listed = 0 }
 
 -- a step done on a day: the day after it has the session after the step, and its answer has the jobs given up first in two lists
 pub record Did (day : Day) (a : Step) (r : SteppedDay) (tickets grades : List ℕ) : Type 0 where
