@@ -2,5 +2,5 @@ pub mod Steps
 pub mod Entries
 pub mod Closings
 pub mod Requests
-pub mod Packed
+pub mod Kept
 pub mod Listed

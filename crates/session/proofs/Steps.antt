@@ -1,8 +1,8 @@
 -- A line refused, a board opened, a job admitted or withdrawn, and what can be promised: the day after it, and the answer.
 use mathlib.Core.Path.{◌≡◌, refl, sym, ap, ◌∙◌, subst}
-use mathlib.Core.Bool.{true, cond}
+use mathlib.Core.Bool.{true}
 use mathlib.Core.List.{List, [], ◌∷◌}
-use mathlib.Core.Option.{some, none}
+use mathlib.Core.Option.{some}
 use Prim.Native.Nat.{ℕ}
 use native.Mathlib.Omega.{arith}
 use borrow.Author.Tests.{eq-eqb, ne_eqb}
@@ -26,12 +26,10 @@ use Rattle.lines.specs.Session.{Session, an_opening, an_admitting, a_promise, a_
 use Rattle.lines.proofs.NeverMet.MayMeet.{opened_shallow}
 use Rattle.answers.specs.declared.Answer.TheVariants.{Refused, Opened as BoardOpened, Admitted as JobAdmitted, Promised as WaitPromised, Withdrawn as JobWithdrawn}
 use Rattle.answers.specs.Printed.{answer_of}
+use Rattle.packing.specs.declared.Packed.{Packed}
+use Rattle.packing.specs.Inner.Packed.{board_of}
 use Rattle.session.specs.declared.Day.{Day}
-use Rattle.session.specs.Inner.Days.{session_of, GoodDay, SteppedDay, Did, DidAlone}
-
--- a day with an open board
-abbrev pub open_day : Board → Tally → Day
-open_day b t = record { opened = true; board = b; tally = t }
+use Rattle.session.specs.Inner.Days.{session_of, GoodDay, open_day, SteppedDay, Did, DidAlone}
 
 abbrev pub open_session : Board → Tally → Session
 open_session b t = record { board = some b; tally = t }
@@ -39,17 +37,18 @@ open_session b t = record { board = some b; tally = t }
 pub did_as : {day : Day} {a b : Step} {r : SteppedDay} {T G : List ℕ} → a ≡ b → Did day b r T G → Did day a r T G
 did_as {day} {a} {b} {r} {T} {G} e d = subst (λ (x : Step). Did day x r T G) (sym e) d
 
-pub alone_as : {day : Day} {a b : Step} {r : SteppedDay} → a ≡ b → DidAlone day b r → DidAlone day a r
-alone_as {day} {a} {b} {r} e d = subst (λ (x : Step). DidAlone day x r) (sym e) d
-
--- while a board is open it is the day's
-pub day_board : (d : Day) → d.opened ≡ true → (session_of d).board ≡ some d.board
-unfolding session_of
-day_board d h = ap (λ o. cond o (some d.board) none) h
-
-pub refusal_did : (day : Day) (n : ℕ) → GoodDay day → DidAlone day (step_refused (session_of day).board n) (record { day = day; answer = Refused n; listed = 0 })
+-- a line that is refused: the day has the session that it had
+pub refusal_did : (day after : Day) (n : ℕ) → GoodDay after → session_of after ≡ session_of day
+    → DidAlone day (step_refused (session_of day).board n) (record { day = after; answer = Refused n; listed = 0 })
 unfolding step_refused session_after fed answer_of
-refusal_did day n g T G = record { good = g; session = refl; few = omega arith; answer = refl }
+refusal_did day after n g e T G = record { good = g; session = e; few = omega arith; answer = refl }
+
+-- so while a board is open, which the call leaves as it was
+pub kept_did : (p q : Packed) (t : Tally) (n : ℕ) (a : Step) → sound (board_of p) ≡ true → board_of q ≡ board_of p → a ≡ step_refused (some (board_of p)) n
+    → DidAlone (open_day p t) a (record { day = open_day q t; answer = Refused n; listed = 0 })
+unfolding session_of GoodDay
+kept_did p q t n a s e f T G =
+    did_as f (refusal_did (open_day p t) (open_day q t) n (rw e s) (ap (λ b. open_session b t) e) T G)
 
 module _ (day : Day) (d : ℕ) (o : Opened) (e : o ≡ opened d) where
   pub open_refused : (o.refusal ≡ 0 → ⊥) → step_open (session_of day).board d ≡ step_refused (session_of day).board o.refusal
@@ -60,67 +59,90 @@ module _ (day : Day) (d : ℕ) (o : Opened) (e : o ≡ opened d) where
   unfolding step_open
   open_step h = rw (← e) (cond_true _ _ _ (eq-eqb o.refusal 0 h))
 
-  pub open_did : o.refusal ≡ 0
-      → DidAlone day (step_open (session_of day).board d) (record { day = open_day o.board day.tally; answer = BoardOpened d; listed = 0 })
-  unfolding answer_of session_of session_after fed GoodDay
-  open_did h T G =
-      did_as (open_step h)
-      (record { good = λ _. rw e (opened_sound d (opened_shallow d (rw e at h))); session = refl; few = omega arith; answer = refl })
+  pub opened_is_sound : o.refusal ≡ 0 → sound o.board ≡ true
+  opened_is_sound h = rw e (opened_sound d (opened_shallow d (rw e at h)))
 
-module _ (day : Day) (t w g : ℕ) (a : Admitted) (e : a ≡ admitted day.board t w g) where
-  pub admit_refused : (a.refusal ≡ 0 → ⊥) → day.opened ≡ true → step_admit day.board t w g ≡ step_refused (session_of day).board a.refusal
+  pub open_did : (p : Packed) → o.refusal ≡ 0 → board_of p ≡ o.board
+      → DidAlone day (step_open (session_of day).board d) (record { day = open_day p day.tally; answer = BoardOpened d; listed = 0 })
+  unfolding answer_of session_of session_after fed GoodDay
+  open_did p h q T G =
+      did_as (open_step h)
+      (record { good = rw q (opened_is_sound h); session = ap (λ b. open_session b day.tally) q; few = omega arith; answer = refl })
+
+module _ (p : Packed) (y : Tally) (s : sound (board_of p) ≡ true) (t w g : ℕ) (a : Admitted) (e : a ≡ admitted (board_of p) t w g) where
+  abbrev b : Board
+  b = board_of p
+
+  pub admit_refused : (a.refusal ≡ 0 → ⊥) → step_admit b t w g ≡ step_refused (some b) a.refusal
   unfolding step_admit
-  admit_refused h k = rw (← e) (cond_false _ _ _ (ne_eqb a.refusal 0 h)) ∙ ap (λ o. step_refused o a.refusal) (sym (day_board day k))
+  admit_refused h = rw (← e) (cond_false _ _ _ (ne_eqb a.refusal 0 h))
 
   admit_step : a.refusal ≡ 0
-      → step_admit day.board t w g
-      ≡ record { answer = an_admitting t a.last.0; board = some a.board; events = admit_events day.board t w g }
+      → step_admit b t w g ≡ record { answer = an_admitting t a.last.0; board = some a.board; events = admit_events b t w g }
   unfolding step_admit
   admit_step h = rw (← e) (cond_true _ _ _ (eq-eqb a.refusal 0 h))
 
-  one_fed : a.refusal ≡ 0 → fed day.tally (admit_events day.board t w g) ≡ fed day.tally (event admitted_kind g ∷ [])
+  one_fed : a.refusal ≡ 0 → fed y (admit_events b t w g) ≡ fed y (event admitted_kind g ∷ [])
   unfolding admit_events
-  one_fed h = rw (← e) (ap (fed day.tally) (let_through a.refusal _ h))
+  one_fed h = rw (← e) (ap (fed y) (let_through a.refusal _ h))
 
-  pub admit_did : (y : Tally) → sound day.board ≡ true → a.refusal ≡ 0 → y ≡ fed day.tally (event admitted_kind g ∷ [])
-      → DidAlone day (step_admit day.board t w g) (record { day = open_day a.board y; answer = JobAdmitted t a.last; listed = 0 })
+  pub admit_did : (q : Packed) (z : Tally) → a.refusal ≡ 0 → a.board ≡ board_of q → z ≡ fed y (event admitted_kind g ∷ [])
+      → DidAlone (open_day p y) (step_admit b t w g) (record { day = open_day q z; answer = JobAdmitted t a.last; listed = 0 })
   unfolding answer_of session_of session_after GoodDay
-  admit_did y s h c T G =
+  admit_did q z h k c T G =
       did_as (admit_step h)
-      (record { good = λ _. rw e (admitted_sound day.board t w g s); session = ap (open_session a.board) (c ∙ sym (one_fed h)); few = omega arith; answer = refl })
+      (record {
+        good = rw (← k, e) (admitted_sound b t w g s);
+        session = ap (λ x. open_session x z) (sym k) ∙ ap (open_session a.board) (c ∙ sym (one_fed h));
+        few = omega arith;
+        answer = refl;
+      })
 
-module _ (day : Day) (p : Promised) (e : p ≡ promised day.board) (k : day.opened ≡ true) where
-  pub promise_refused : (p.refusal ≡ 0 → ⊥) → step_promise day.board ≡ step_refused (session_of day).board p.refusal
+module _ (p : Packed) (y : Tally) (s : sound (board_of p) ≡ true) (r : Promised) (e : r ≡ promised (board_of p)) where
+  abbrev pb : Board
+  pb = board_of p
+
+  pub promise_refused : (r.refusal ≡ 0 → ⊥) → step_promise pb ≡ step_refused (some pb) r.refusal
   unfolding step_promise
-  promise_refused h = rw (← e) (cond_false _ _ _ (ne_eqb p.refusal 0 h)) ∙ ap (λ o. step_refused o p.refusal) (sym (day_board day k))
+  promise_refused h = rw (← e) (cond_false _ _ _ (ne_eqb r.refusal 0 h))
 
-  promise_step : p.refusal ≡ 0 → step_promise day.board ≡ record { answer = a_promise p.laxity.0; board = (session_of day).board; events = [] }
+  promise_step : r.refusal ≡ 0 → step_promise pb ≡ record { answer = a_promise r.laxity.0; board = some pb; events = [] }
   unfolding step_promise
-  promise_step h =
-      rw (← e) (cond_true _ _ _ (eq-eqb p.refusal 0 h)) ∙ ap (λ o. record { answer = a_promise p.laxity.0; board = o; events = [] }) (sym (day_board day k))
+  promise_step h = rw (← e) (cond_true _ _ _ (eq-eqb r.refusal 0 h))
 
-  pub promise_did : GoodDay day → p.refusal ≡ 0
-      → DidAlone day (step_promise day.board) (record { day = day; answer = WaitPromised p.laxity; listed = 0 })
-  unfolding answer_of session_after fed
-  promise_did g h T G = did_as (promise_step h) (record { good = g; session = refl; few = omega arith; answer = refl })
+  pub promise_did : r.refusal ≡ 0
+      → DidAlone (open_day p y) (step_promise pb) (record { day = open_day p y; answer = WaitPromised r.laxity; listed = 0 })
+  unfolding answer_of session_of session_after fed GoodDay
+  promise_did h T G = did_as (promise_step h) (record { good = s; session = refl; few = omega arith; answer = refl })
 
-module _ (day : Day) (t : ℕ) (w : Withdrawn) (e : w ≡ withdrawn day.board t) where
-  pub withdraw_refused : (w.refusal ≡ 0 → ⊥) → day.opened ≡ true → step_withdraw day.board t ≡ step_refused (session_of day).board w.refusal
+module _ (p : Packed) (y : Tally) (s : sound (board_of p) ≡ true) (t : ℕ) (w : Withdrawn) (e : w ≡ withdrawn (board_of p) t) where
+  abbrev wb : Board
+  wb = board_of p
+
+  pub withdraw_refused : (w.refusal ≡ 0 → ⊥) → step_withdraw wb t ≡ step_refused (some wb) w.refusal
   unfolding step_withdraw
-  withdraw_refused h k = rw (← e) (cond_false _ _ _ (ne_eqb w.refusal 0 h)) ∙ ap (λ o. step_refused o w.refusal) (sym (day_board day k))
+  withdraw_refused h = rw (← e) (cond_false _ _ _ (ne_eqb w.refusal 0 h))
 
   withdraw_step : w.refusal ≡ 0
-      → step_withdraw day.board t ≡ record { answer = a_withdrawal t; board = some w.board; events = withdraw_events day.board t }
+      → step_withdraw wb t ≡ record { answer = a_withdrawal t; board = some w.board; events = withdraw_events wb t }
   unfolding step_withdraw
   withdraw_step h = rw (← e) (cond_true _ _ _ (eq-eqb w.refusal 0 h))
 
-  withdrawn_fed : w.refusal ≡ 0 → fed day.tally (withdraw_events day.board t) ≡ fed day.tally (event withdrawn_kind w.grade ∷ [])
+  withdrawn_fed : w.refusal ≡ 0 → fed y (withdraw_events wb t) ≡ fed y (event withdrawn_kind w.grade ∷ [])
   unfolding withdraw_events
-  withdrawn_fed h = rw (← e) (ap (fed day.tally) (let_through w.refusal _ h))
+  withdrawn_fed h = rw (← e) (ap (fed y) (let_through w.refusal _ h))
 
-  pub withdraw_did : (y : Tally) → sound day.board ≡ true → w.refusal ≡ 0 → y ≡ fed day.tally (event withdrawn_kind w.grade ∷ [])
-      → DidAlone day (step_withdraw day.board t) (record { day = open_day w.board y; answer = JobWithdrawn t; listed = 0 })
+  pub withdrawn_is_sound : sound w.board ≡ true
+  withdrawn_is_sound = rw e (withdrawn_sound wb t s)
+
+  pub withdraw_did : (q : Packed) (z : Tally) → w.refusal ≡ 0 → board_of q ≡ w.board → z ≡ fed y (event withdrawn_kind w.grade ∷ [])
+      → DidAlone (open_day p y) (step_withdraw wb t) (record { day = open_day q z; answer = JobWithdrawn t; listed = 0 })
   unfolding answer_of session_of session_after GoodDay
-  withdraw_did y s h c T G =
+  withdraw_did q z h k c T G =
       did_as (withdraw_step h)
-      (record { good = λ _. rw e (withdrawn_sound day.board t s); session = ap (open_session w.board) (c ∙ sym (withdrawn_fed h)); few = omega arith; answer = refl })
+      (record {
+        good = rw k withdrawn_is_sound;
+        session = ap (λ x. open_session x z) k ∙ ap (open_session w.board) (c ∙ sym (withdrawn_fed h));
+        few = omega arith;
+        answer = refl;
+      })
