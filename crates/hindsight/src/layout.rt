@@ -9,14 +9,12 @@ use matching::{Jobs, Laid, Window};
 
 impl Listed<'_> {
     // Whether there is no best job so far, or the window's last slot is less than that job's.
+    #[tactic(auto, unfolding(matching::specs::Windows::last_of, matching::specs::Windows::no_window))]
     fn beats(&self, w: &Window, best: Option<usize>) -> bool
         requires { ForSome best (λ b. b < length self.now.windows.now) }
         ensures { result ≡ beats self.now.windows.now w.now best }
     {
-        match best {
-            Some(b) => w.last.0 < self.windows[b].last.0,
-            None => true,
-        }
+        best.is_none_or(|b| w.last.0 < self.windows[b].last.0)
     }
 
     // The job that gets a slot: of those that have come, the one with the least last slot, of several the earliest.

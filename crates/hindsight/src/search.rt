@@ -8,7 +8,7 @@ use crate::listed::Listed;
 use matching::Jobs;
 
 // A search: the slots visited, and the job that holds each slot.
-#[derive(Clone, Copy)]
+#[derive(Drop)]
 pub(crate) struct Trail {
     pub visited: [bool; Jobs::SLOTS],
     pub holders: [Option<u8>; Jobs::SLOTS],
@@ -56,7 +56,7 @@ impl Listed<'_> {
         ensures { Moved self.now.windows.now at trail.old trail.new result }
     {
         match trail.holders[at] {
-            Some(job) => self.seek(job as usize, trail),
+            Some(holder) => self.seek(holder as usize, trail),
             None => true,
         }
     }

@@ -29,7 +29,7 @@ module _ (ws : List Window) (r : ℕ) where
   pub look_first : (s : Trail) → Ready ws r s → Looking ws r s s (first_of ws r - 1)
   look_first s y =
       record {
-          fitting = y.fitting;
+        fitting = y.fitting;
         grows = λ k e. e;
         same = refl;
         passed = λ k h l. absurd (omega arith);
