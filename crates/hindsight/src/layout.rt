@@ -31,7 +31,7 @@ impl Listed<'_> {
         best
     }
 
-    // The slot of each job, 0 for none.
+    // The slot of each job, 0 for none, as in C's `BestDay` and in `layout` of matching's specs.
     pub fn lay_out(&self, chosen: [bool; Jobs::MOST]) -> [u32; Jobs::MOST]
         ensures { result ≡ layout self.now.windows.now chosen }
     {

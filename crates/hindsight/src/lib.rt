@@ -16,7 +16,7 @@ mod layout;
 mod listed;
 mod search;
 
-// A first and a last slot from 1 to 64, the last not before the first.
+// A first and a last slot from 1 to 64, the last not before the first. `Window` is declared in `matching`, so this is no method.
 #[tactic(auto, unfolding(matching::specs::Windows::is_window))]
 pub fn is_window(w: Window) -> bool
     ensures { result ≡ is_window w }
@@ -28,12 +28,12 @@ pub fn is_window(w: Window) -> bool
 fn plan(d: &Jobs) -> Result<[u32; Jobs::MOST], Refusal>
     ensures { answer_of result ≡ best_day d.now }
 {
-    let listed = Listed::of(d)?;
+    let listed = Listed::try_from(d)?;
     let chosen = listed.choose();
     Ok(listed.lay_out(chosen))
 }
 
-// The best day in hindsight: the slot of each job, or the number of a refusal. C calls it, so the answer is a struct and no `Result`.
+// The best day in hindsight: the slot of each job, or the number of a refusal. C calls it, so the answer is no `Result`.
 pub fn find_best_day(d: Jobs) -> BestDay
     ensures { result ≡ best_day d }
 {

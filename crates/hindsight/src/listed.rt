@@ -1,4 +1,4 @@
-// A list that is not refused.
+// A list of jobs that is not refused: at most 64, each with a window. The code behind `find_best_day` takes no other.
 ghost use Rattle.std.specs.Prelude.{◌≡◌, IfOk};
 ghost use Rattle.lists.specs.Select.{every};
 ghost use Rattle.board.specs.Rows.{first_given};
@@ -11,6 +11,13 @@ use crate::is_window;
 use board::Refusal;
 use matching::{Jobs, Window};
 
+// The windows of the jobs, best first.
+#[derive(Clone, Copy)]
+pub(crate) struct Listed<'a> {
+    pub windows: &'a [Window],
+    ghost accepted: { Accepted windows.now },
+}
+
 // Whether every job has a window.
 fn all_windows(windows: &[Window]) -> bool
     ensures { result ≡ every is_window windows.now }
@@ -18,19 +25,13 @@ fn all_windows(windows: &[Window]) -> bool
     windows.iter().all(|w| is_window(*w))
 }
 
-// The windows of its jobs, best first.
-#[derive(Clone, Copy)]
-pub(crate) struct Listed<'a> {
-    pub windows: &'a [Window],
-    ghost accepted: { Accepted windows.now },
-}
+impl<'a> TryFrom<&'a Jobs> for Listed<'a> {
+    type Error = Refusal;
 
-impl<'a> Listed<'a> {
     // The list, or why it is refused.
-    pub fn of(d: &'a Jobs) -> Result<Listed<'a>, Refusal>
-        ensures number { refusal_number result ≡ first_given (best_day_rows d.now) }
-        ensures windows { IfOk result (λ l. l.windows.now ≡ windows_of d.now) }
-    {
+    ghost try_from_gives = { λ d r. (refusal_number r ≡ first_given (best_day_rows d.now)) × IfOk r (λ l. l.windows.now ≡ windows_of d.now) };
+
+    fn try_from(d: &'a Jobs) -> Result<Self, Refusal> {
         if Jobs::MOST < d.count {
             return Err(Refusal::TooManyJobs);
         }

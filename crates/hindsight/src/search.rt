@@ -7,7 +7,8 @@ ghost use Rattle.hindsight.specs.Inner.Search.{Ready, ToMove, Sought, Moved};
 use crate::listed::Listed;
 use matching::Jobs;
 
-// A search: the slots visited, and the job that holds each slot.
+// A search: the slots visited, and the job that holds each slot. Each search begins with no slot visited and the holders of the one before, so the two are
+// apart.
 #[derive(Drop)]
 pub(crate) struct Trail {
     pub visited: [bool; Jobs::SLOTS],

@@ -1,11 +1,11 @@
 -- What `seek` keeps while it looks: the slots of the window before `at` are visited, and every slot newly visited is stuck.
 use mathlib.Core.Path.{◌≡◌, refl, sym, ap, ◌∙◌}
-use mathlib.Core.Bool.{Bool, true, false}
+use mathlib.Core.Bool.{true, false}
 use mathlib.Core.Logic.{◌⊎◌, inl, inr}
 use mathlib.Core.List.{List}
 use Prim.Native.Nat.{ℕ, suc, ◌+◌, ◌-◌, ◌≤◌, ◌<◌}
 use native.Mathlib.Omega.{arith}
-use Rattle.std.specs.Prelude.{Option, Some, None}
+use Rattle.std.specs.Prelude.{None}
 use lib.ListN.{get_or}
 use Rattle.matching.specs.declared.Window.{Window}
 use Rattle.matching.specs.Windows.{slot_count, first_of, last_of}

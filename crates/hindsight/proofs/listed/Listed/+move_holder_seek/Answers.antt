@@ -1,10 +1,10 @@
 use mathlib.Core.Path.{sym, ap}
 use native.Mathlib.Omega.{arith}
 use Rattle.hindsight.specs.Inner.Search.{visited_at, holder_number, holder}
-use Rattle.hindsight.proofs.Searching.Listed.{first_there, last_there, window_of}
+use Rattle.hindsight.proofs.Searching.Listed.{first_there, last_there}
 use Rattle.hindsight.proofs.Searching.Looking.{look_first, look_past, look_end}
 use Rattle.hindsight.proofs.Searching.Taken.{room_free, ready_holder, room_moved}
-use Rattle.hindsight.proofs.Searching.Turns.{in_range, turn_room, turn_falls, turn_on, turn_taken}
+use Rattle.hindsight.proofs.Searching.Turns.{turn_room, turn_falls, turn_on, turn_taken}
 use Rattle.hindsight.proofs.listed.Listed.+move_holder_seek.Goals as goal
 use Rattle.hindsight.proofs.listed.Listed.+move_holder_seek.Goals.{seek-then-not-trail-at+else-move_holder, seek-else-not-trail-at}
 

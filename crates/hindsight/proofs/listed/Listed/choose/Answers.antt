@@ -1,8 +1,7 @@
 -- After i jobs the chosen ones hold a slot each.
-use mathlib.Core.Path.{sym, ap, subst, ◌∙◌}
+use mathlib.Core.Path.{ap, ◌∙◌}
 use native.Mathlib.Omega.{arith}
 use Rattle.matching.specs.Choice.{chosen_to, chosen as chosen_of}
-use Rattle.hindsight.specs.Inner.Search.{Ready, Sought}
 use Rattle.hindsight.proofs.Choosing.Matched.{matched_first, ready, matched_next}
 use Rattle.hindsight.proofs.listed.Listed.choose.Goals as goal
 

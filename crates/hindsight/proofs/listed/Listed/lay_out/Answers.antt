@@ -1,5 +1,5 @@
 -- The layout of the slots passed.
-use mathlib.Core.Path.{◌≡◌, refl, sym, ap, ◌∙◌}
+use mathlib.Core.Path.{refl, sym, ap, ◌∙◌}
 use native.Mathlib.Omega.{arith}
 use Rattle.matching.specs.declared.Laid.{Laid}
 use Rattle.matching.specs.Layout.{laid_to, layout}
