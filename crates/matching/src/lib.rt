@@ -15,7 +15,7 @@ pub struct Window {
     pub last: Slot,
 }
 
-// The windows of the jobs, best first, in the first `count` places.
+// The windows of the jobs, best first, in the first `count` places. C passes it, so the count stands beside the array.
 #[repr(C)]
 #[derive(Clone, Copy)]
 pub struct Jobs {
@@ -31,14 +31,14 @@ impl Jobs {
     pub const SLOTS: usize = 64;
 }
 
-// A layout so far: the jobs that still wait, and the slot of each job, 0 for none.
+// A layout so far: the jobs that still wait, and the slot of each job, 0 for none. `laid_to` and `give` of specs/ are of these two lists.
 #[derive(Clone, Copy)]
 pub struct Laid {
     pub waiting: [bool; Jobs::MOST],
     pub slots: [u32; Jobs::MOST],
 }
 
-// What the call answers: the number of a refusal, or 0, and the slot of each job in list order, 0 for none.
+// What the call answers: the number of a refusal, or 0, and the slot of each job in list order, 0 for none. C takes it, so it is no `Result`.
 #[repr(C)]
 #[derive(Clone, Copy)]
 pub struct BestDay {

@@ -6,63 +6,68 @@ use mathlib.Core.List.{List}
 use Prim.Native.Nat.{ℕ, suc, ◌+◌, ◌<◌}
 use native.Mathlib.Omega.{arith}
 use native.Mathlib.Numerals.{add-one}
+use Rattle.std.specs.Prelude.{Option, None}
 use lib.Dec.{eqb}
 use lib.ListN.{length, set, get_or, replicate, length-replicate}
 use borrow.Author.Tests.{eq-eqb, ne_eqb}
 use Rattle.lists.specs.Select.{one_if}
 use Rattle.lists.proofs.Counting.{one_if_yes, one_if_no}
 use Rattle.lists.proofs.Tests.{test, never}
-use Rattle.matching.specs.declared.Jobs.{Jobs}
-use Rattle.matching.specs.Windows.{most_jobs, slot_count, windows_of}
+use Rattle.matching.specs.declared.Window.{Window}
+use Rattle.matching.specs.Windows.{most_jobs, slot_count}
 use Rattle.matching.specs.Choice.{is_in, all_fit, chosen_to}
 use Rattle.matching.proofs.Below.Counting.{same_or_not, count_none}
 use Rattle.matching.proofs.Choice.Sets.{all_same, none_in, set_in, set_out_of}
 use Rattle.matching.proofs.Choice.Chosen.{chosen_length, chosen_late}
 use Rattle.hindsight.specs.declared.search.Trail.{Trail}
-use Rattle.hindsight.specs.Inner.Search.{visited_at, holder, slots_held, Accepted, Fitting, Stuck, OneMore, Ready, Sought}
+use Rattle.hindsight.specs.Inner.Search.{visited_at, holder_number, holder, slots_held, Fitting, Stuck, OneMore, Ready, Sought}
+use Rattle.hindsight.specs.Inner.Accepted.{Accepted}
 use Rattle.hindsight.proofs.Choosing.Found.{holders_fit}
 use Rattle.hindsight.proofs.Choosing.NotFound.{not_fit}
 
 -- a search that begins
-abbrev pub fresh : List ℕ → Trail
-fresh holders = record { found = false; visited = replicate slot_count false; holders = holders }
+abbrev pub fresh : List (Option ℕ) → Trail
+fresh holders = record { visited = replicate slot_count false; holders = holders }
 
-pub record Matched (d : Jobs) (i : ℕ) (c : List Bool) (holders : List ℕ) : Type 0 where
-  pub chosen_is : c ≡ chosen_to (windows_of d) i
-  pub fitting : Fitting d (fresh holders)
+pub record Matched (ws : List Window) (i : ℕ) (c : List Bool) (holders : List (Option ℕ)) : Type 0 where
+  pub chosen_is : c ≡ chosen_to ws i
+  pub fitting : Fitting ws (fresh holders)
   pub once : (r : ℕ) → slots_held (fresh holders) (suc r) ≡ one_if (is_in c r)
 
-pub matched_first : (d : Jobs) → Matched d 0 (replicate most_jobs false) (replicate slot_count 0)
+all_free : (k : ℕ) → holder_number (get_or (replicate slot_count None) k None) ≡ 0
+all_free k = ap holder_number (all_same {A = Option ℕ} None slot_count k)
+
+pub matched_first : (ws : List Window) → Matched ws 0 (replicate most_jobs false) (replicate slot_count None)
 unfolding chosen_to holder slots_held
-matched_first d =
+matched_first ws =
     record {
       chosen_is = refl;
       fitting = record {
         visited_all = length-replicate {A = Bool} slot_count false;
-        holders_all = length-replicate {A = ℕ} slot_count 0;
-        held = λ k r h e. absurd (omega (arith, all_same {A = ℕ} 0 slot_count k));
+        holders_all = length-replicate {A = Option ℕ} slot_count None;
+        held = λ k r h e. absurd (omega (arith, all_free k));
       };
       once = λ r.
-          count_none (λ k. eqb (get_or (replicate slot_count 0) k 0) (suc r)) slot_count (λ k h. ne_eqb (get_or (replicate slot_count 0) k 0) (suc r) (λ e. omega (arith, all_same {A = ℕ} 0 slot_count k)))
+          count_none (λ k. eqb (holder_number (get_or (replicate slot_count None) k None)) (suc r)) slot_count (λ k h. ne_eqb (holder_number (get_or (replicate slot_count None) k None)) (suc r) (λ e. omega (arith, all_free k)))
           ∙ sym (one_if_no (is_in (replicate most_jobs false) r) (none_in most_jobs r));
     }
 
-module _ (d : Jobs) (ok : Accepted d) (i : ℕ) (h : i < d.count) (c : List Bool) (holders : List ℕ) (m : Matched d i c holders) where
-  pub ready : Ready d i (fresh holders)
-  ready = record { accepted = ok; job = h; looking = refl; fitting = m.fitting }
+module _ (ws : List Window) (ok : Accepted ws) (i : ℕ) (h : i < length ws) (c : List Bool) (holders : List (Option ℕ)) (m : Matched ws i c holders) where
+  pub ready : Ready ws i (fresh holders)
+  ready = record { job = h; fitting = m.fitting }
 
   all_there : length c ≡ most_jobs
-  all_there = ap length m.chosen_is ∙ chosen_length (windows_of d) i
+  all_there = ap length m.chosen_is ∙ chosen_length ws i
 
   not_yet : is_in c i ≡ false
-  not_yet = ap (λ l. is_in l i) m.chosen_is ∙ chosen_late (windows_of d) i i (omega arith)
+  not_yet = ap (λ l. is_in l i) m.chosen_is ∙ chosen_late ws i i (omega arith)
 
   i_there : i < length c
   i_there = omega (arith, all_there, ok.few)
 
-  module _ (t : Trail) (s : Sought d i (fresh holders) t) where
+  module _ (t : Trail) (found : Bool) (s : Sought ws i (fresh holders) t found) where
     -- the trail's holders, as those of the next search
-    next_fitting : Fitting d (fresh t.holders)
+    next_fitting : Fitting ws (fresh t.holders)
     unfolding holder
     next_fitting = let f = s.kept.fitting in record { visited_all = length-replicate {A = Bool} slot_count false; holders_all = f.holders_all; held = f.held }
 
@@ -71,7 +76,7 @@ module _ (d : Jobs) (ok : Accepted d) (i : ℕ) (h : i < d.count) (c : List Bool
     next_held h = refl
 
     -- a slot is found
-    once_found : t.found ≡ true → (r : ℕ) → slots_held t (suc r) ≡ one_if (is_in (set c i true) r)
+    once_found : found ≡ true → (r : ℕ) → slots_held t (suc r) ≡ one_if (is_in (set c i true) r)
     unfolding OneMore
     once_found e r = go (same_or_not r i)
       where
@@ -94,40 +99,40 @@ module _ (d : Jobs) (ok : Accepted d) (i : ℕ) (h : i < d.count) (c : List Bool
               ap one_if (set_out_of c i true r n),
             )
 
-    once_not : t.found ≡ false → (r : ℕ) → slots_held t (suc r) ≡ one_if (is_in c r)
+    once_not : found ≡ false → (r : ℕ) → slots_held t (suc r) ≡ one_if (is_in c r)
     unfolding slots_held holder
     once_not e r = ap (λ l. slots_held (fresh l) (suc r)) (s.no_slot e).same ∙ m.once r
 
-    stuck_all : t.found ≡ false → (k : ℕ) → k < slot_count → visited_at t k ≡ true → Stuck d t k
+    stuck_all : found ≡ false → (k : ℕ) → k < slot_count → visited_at t k ≡ true → Stuck ws t k
     unfolding visited_at is_in
     stuck_all e k l y = go ((s.no_slot e).stuck k l y)
       where
-        go : (visited_at (fresh holders) k ≡ true) ⊎ Stuck d t k → Stuck d t k
+        go : (visited_at (fresh holders) k ≡ true) ⊎ Stuck ws t k → Stuck ws t k
         go (inl z) = never z (none_in slot_count k)
         go (inr z) = z
 
-    found_is : t.found ≡ all_fit (windows_of d) (set c i true)
-    found_is = go (test t.found)
+    chosen_next : found ≡ all_fit ws (set c i true)
+    chosen_next = go (test found)
       where
-        go : (t.found ≡ true) ⊎ (t.found ≡ false) → t.found ≡ all_fit (windows_of d) (set c i true)
-        go (inl e) = e ∙ sym (holders_fit d ok t s.kept.fitting (set c i true) (once_found e))
-        go (inr e) = e ∙ sym (not_fit d ok t s.kept.fitting (stuck_all e) c (once_not e) i h i_there not_yet (s.no_slot e).searched)
+        go : (found ≡ true) ⊎ (found ≡ false) → found ≡ all_fit ws (set c i true)
+        go (inl e) = e ∙ sym (holders_fit ws ok t s.kept.fitting (set c i true) (once_found e))
+        go (inr e) = e ∙ sym (not_fit ws ok t s.kept.fitting (stuck_all e) c (once_not e) i h i_there not_yet (s.no_slot e).searched)
 
-    once_next : (r : ℕ) → slots_held t (suc r) ≡ one_if (is_in (set c i t.found) r)
-    once_next r = go (test t.found) (same_or_not r i)
+    once_next : (r : ℕ) → slots_held t (suc r) ≡ one_if (is_in (set c i found) r)
+    once_next r = go (test found) (same_or_not r i)
       where
-        go : (t.found ≡ true) ⊎ (t.found ≡ false) → (r ≡ i) ⊎ (r ≡ i → ⊥) → slots_held t (suc r) ≡ one_if (is_in (set c i t.found) r)
+        go : (found ≡ true) ⊎ (found ≡ false) → (r ≡ i) ⊎ (r ≡ i → ⊥) → slots_held t (suc r) ≡ one_if (is_in (set c i found) r)
         go (inl e) z = once_found e r ∙ ap (λ v. one_if (is_in (set c i v) r)) (sym e)
         go (inr e) (inl n) =
             once_not e r
-            ∙ ap one_if (ap (is_in c) n ∙ not_yet ∙ sym e ∙ sym (set_in c i t.found i_there) ∙ ap (is_in (set c i t.found)) (sym n))
-        go (inr e) (inr n) = once_not e r ∙ ap one_if (sym (set_out_of c i t.found r n))
+            ∙ ap one_if (ap (is_in c) n ∙ not_yet ∙ sym e ∙ sym (set_in c i found i_there) ∙ ap (is_in (set c i found)) (sym n))
+        go (inr e) (inr n) = once_not e r ∙ ap one_if (sym (set_out_of c i found r n))
 
-    pub matched_next : Matched d (i + 1) (set c i t.found) t.holders
+    pub matched_next : Matched ws (i + 1) (set c i found) t.holders
     unfolding chosen_to
     matched_next =
         record {
-          chosen_is = rw add-one (ap (set c i) found_is ∙ ap (λ l. set l i (all_fit (windows_of d) (set l i true))) m.chosen_is);
+          chosen_is = rw add-one (ap (set c i) chosen_next ∙ ap (λ l. set l i (all_fit ws (set l i true))) m.chosen_is);
           fitting = next_fitting;
           once = λ r. next_held (suc r) ∙ once_next r;
         }

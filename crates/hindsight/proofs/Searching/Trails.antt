@@ -5,18 +5,19 @@ use mathlib.Core.Logic.{◌⊎◌, inl, inr}
 use mathlib.Core.List.{List, [], ◌∷◌}
 use Prim.Native.Nat.{ℕ, zero, suc, ◌+◌, ◌≤◌, ◌<◌}
 use native.Mathlib.Omega.{arith}
+use Rattle.std.specs.Prelude.{Some, None}
 use lib.Dec.{eqb}
 use lib.ListN.{length, get_or, set, length-set}
 use lib.Seq.{get_or-set_same, get_or-set_other}
 use borrow.Author.Tests.{not-true}
 use Rattle.lists.specs.Select.{one_if}
 use Rattle.lists.proofs.Tests.{test, never}
-use Rattle.matching.specs.declared.Jobs.{Jobs}
+use Rattle.matching.specs.declared.Window.{Window}
 use Rattle.matching.specs.Windows.{slot_count}
 use Rattle.matching.proofs.Below.Counting.{same_or_not, count_mono, count_change}
 use Rattle.matching.proofs.Below.Pigeonhole.{without, without_other, count_without}
 use Rattle.hindsight.specs.declared.search.Trail.{Trail}
-use Rattle.hindsight.specs.Inner.Search.{visited_at, holder, unvisited, slots_held, Fitting}
+use Rattle.hindsight.specs.Inner.Search.{visited_at, holder_number, holder, unvisited, slots_held, Fitting}
 
 -- more slots visited, fewer unvisited
 pub unvisited_falls : (s t : Trail) → ((k : ℕ) → visited_at s k ≡ true → visited_at t k ≡ true) → unvisited t ≤ unvisited s
@@ -29,7 +30,7 @@ unvisited_falls s t grows = count_mono (λ k. not (visited_at t k)) (λ k. not (
 
 -- the slot `at` visited
 abbrev pub visit_at : Trail → ℕ → Trail
-visit_at t at = record { found = t.found; visited = set t.visited at true; holders = t.holders }
+visit_at t at = record { visited = set t.visited at true; holders = t.holders }
 
 grown : (v : List Bool) (at k : ℕ) → get_or v k false ≡ true → get_or (set v at true) k false ≡ true
 grown [] at k e = e
@@ -59,9 +60,9 @@ module _ (t : Trail) (at : ℕ) where
   unfolding slots_held holder
   visit_held h = refl
 
-  pub visit_fitting : (d : Jobs) → Fitting d t → Fitting d (visit_at t at)
+  pub visit_fitting : (ws : List Window) → Fitting ws t → Fitting ws (visit_at t at)
   unfolding holder
-  visit_fitting d f = record { visited_all = length-set t.visited at true ∙ f.visited_all; holders_all = f.holders_all; held = f.held }
+  visit_fitting ws f = record { visited_all = length-set t.visited at true ∙ f.visited_all; holders_all = f.holders_all; held = f.held }
 
   -- an unvisited slot visited: one unvisited slot fewer
   pub visit_falls : at < slot_count → visited_at t at ≡ false → at < length t.visited → suc (unvisited (visit_at t at)) ≤ unvisited t
@@ -77,26 +78,26 @@ module _ (t : Trail) (at : ℕ) where
       go k z (inl n) = never (ap (visited_at (visit_at t at)) n ∙ visit_seen l) (not-true (visited_at (visit_at t at) k) z)
       go k z (inr n) = without_other (λ k. not (visited_at t k)) at k (ap not (sym (visit_back k n)) ∙ z) n
 
--- the slot `at` given to h
-abbrev pub take_at : Trail → (at h : ℕ) → Trail
-take_at t at h = record { found = t.found; visited = t.visited; holders = set t.holders at h }
+-- the slot `at` given to the job r
+abbrev pub take_at : Trail → (at r : ℕ) → Trail
+take_at t at r = record { visited = t.visited; holders = set t.holders at (Some r) }
 
-module _ (t : Trail) (at h : ℕ) where
-  pub take_seen : (k : ℕ) → visited_at (take_at t at h) k ≡ visited_at t k
+module _ (t : Trail) (at r : ℕ) where
+  pub take_seen : (k : ℕ) → visited_at (take_at t at r) k ≡ visited_at t k
   unfolding visited_at
   take_seen k = refl
 
-  pub take_same : at < length t.holders → holder (take_at t at h) at ≡ h
+  pub take_same : at < length t.holders → holder (take_at t at r) at ≡ suc r
   unfolding holder
-  take_same l = get_or-set_same t.holders at h 0 l
+  take_same l = ap holder_number (get_or-set_same t.holders at (Some r) None l)
 
-  pub take_other : (k : ℕ) → (k ≡ at → ⊥) → holder (take_at t at h) k ≡ holder t k
+  pub take_other : (k : ℕ) → (k ≡ at → ⊥) → holder (take_at t at r) k ≡ holder t k
   unfolding holder
-  take_other k n = get_or-set_other t.holders at k h 0 n
+  take_other k n = ap holder_number (get_or-set_other t.holders at k (Some r) None n)
 
   pub take_held : (x : ℕ) → at < slot_count → at < length t.holders
-      → slots_held (take_at t at h) x + one_if (eqb (holder t at) x) ≡ slots_held t x + one_if (eqb h x)
+      → slots_held (take_at t at r) x + one_if (eqb (holder t at) x) ≡ slots_held t x + one_if (eqb (suc r) x)
   unfolding slots_held
   take_held x l m =
-      let c = count_change (λ k. eqb (holder (take_at t at h) k) x) (λ k. eqb (holder t k) x) slot_count at l (λ k n. ap (λ y. eqb y x) (take_other k n)) in
+      let c = count_change (λ k. eqb (holder (take_at t at r) k) x) (λ k. eqb (holder t k) x) slot_count at l (λ k n. ap (λ y. eqb y x) (take_other k n)) in
       omega (arith, c, ap (λ y. one_if (eqb y x)) (take_same m))

@@ -1,74 +1,43 @@
--- A turn of the loop of `seek`: the job's window, and the next slot to look at.
-use mathlib.Core.Path.{◌≡◌, sym, ap, subst, ◌∙◌}
+-- A turn of the loop of `seek`: the slot of the job's window to look at.
+use mathlib.Core.Path.{◌≡◌}
 use mathlib.Core.Bool.{true, false}
-use Prim.Native.Nat.{ℕ, suc, ◌+◌, ◌-◌, ◌*◌, ◌≤◌, ◌<◌}
+use mathlib.Core.List.{List}
+use Prim.Native.Nat.{ℕ, ◌+◌, ◌-◌, ◌*◌, ◌≤◌, ◌<◌}
 use native.Mathlib.Omega.{arith}
-use Rattle.matching.specs.declared.Jobs.{Jobs}
-use Rattle.matching.specs.Windows.{slot_count, first_of, last_of, windows_of}
+use lib.ListN.{length, get_or}
+use Rattle.matching.specs.declared.Window.{Window}
+use Rattle.matching.specs.Windows.{slot_count}
 use Rattle.hindsight.specs.declared.search.Trail.{Trail}
-use Rattle.hindsight.specs.Inner.Search.{visited_at, unvisited, Accepted, Held, Ready, Sought, ToMove, Moved}
-use Rattle.hindsight.proofs.Searching.Listed.{window_in, first_there, last_there, window_of}
+use Rattle.hindsight.specs.Inner.Search.{visited_at, unvisited, Held, Sought, ToMove, Moved}
+use Rattle.hindsight.specs.Inner.Accepted.{Accepted}
+use Rattle.hindsight.proofs.Searching.Listed.{blank, first_there, last_there, window_of}
 use Rattle.hindsight.proofs.Searching.Trails.{unvisited_falls, visit_at, visit_falls, take_at}
-use Rattle.hindsight.proofs.Searching.Looking.{Looking, look_first, look_past, look_on, look_end, room_there}
+use Rattle.hindsight.proofs.Searching.Looking.{Looking, look_on, room_there}
 use Rattle.hindsight.proofs.Searching.Taken.{look_taken}
 
-pub record Turn (d : Jobs) (r last : ℕ) (s t : Trail) (at : ℕ) : Type 0 where
-  pub accepted : Accepted d
-  pub job : r < d.count
-  pub last_is : last ≡ last_of (windows_of d) r
-  pub from_first : first_of (windows_of d) r ≤ suc at
-  pub to_last : at ≤ last
-  pub look : Looking d r s t at
+module _ (ws : List Window) (ok : Accepted ws) (r : ℕ) (job : r < length ws) (at : ℕ)
+    (from_first : (get_or ws r blank).first.0 - 1 ≤ at) (to_last : at < (get_or ws r blank).last.0) where
+  mine : Held ws at r
+  mine = record { job = job; from_first = omega (arith, first_there ws r); to_last = omega (arith, last_there ws r) }
 
-pub first_turn : (d : Jobs) (r : ℕ) (s : Trail) → Ready d r s → Turn d r (window_in d r).last.0 s s ((window_in d r).first.0 - 1)
-first_turn d r s y =
-    let f = first_there d r y.job in
-    let l = last_there d r y.job in
-    let w = window_of d y.accepted r y.job in
-    record {
-      accepted = y.accepted;
-      job = y.job;
-      last_is = sym l;
-      from_first = omega arith;
-      to_last = omega (arith, w.ordered);
-      look = subst (λ n. Looking d r s s (n - 1)) f (look_first d r s y);
-    }
+  pub in_range : at < slot_count
+  in_range = omega (arith, (window_of ws ok r job).to_end, mine.to_last)
 
-module _ (d : Jobs) (r last : ℕ) (s t : Trail) (at : ℕ) (k : Turn d r last s t at) where
-  pub last_turn : last ≤ at → Sought d r s t
-  last_turn h = look_end d r s t at k.look (omega (arith, k.last_is))
+  module _ (s t : Trail) (l : Looking ws r s t at) where
+    pub turn_room : ToMove ws at (visit_at t at)
+    turn_room = room_there ws r s t at l in_range
 
-  module _ (h : at < last) where
-    pub in_range : at < slot_count
-    in_range = omega (arith, k.last_is, (window_of d k.accepted r k.job).to_end)
-
-    mine : Held d at r
-    mine = record { job = k.job; from_first = k.from_first; to_last = omega (arith, k.last_is) }
-
-    next : (u : Trail) → Looking d r s u (at + 1) → Turn d r last s u (at + 1)
-    next u l = record { accepted = k.accepted; job = k.job; last_is = k.last_is; from_first = omega (arith, k.from_first); to_last = omega arith; look = l }
-
-    pub turn_past : visited_at t at ≡ true → Turn d r last s t (at + 1)
-    turn_past e = next t (look_past d r s t at k.look e)
-
-    pub turn_room : (v : Trail) → v ≡ visit_at t at → ToMove d at v
-    turn_room v e = subst (ToMove d at) (sym e) (room_there d r s t at k.look k.accepted in_range)
-
-    pub turn_falls : (v : Trail) → v ≡ visit_at t at → visited_at t at ≡ false → 2 * unvisited v + 1 < 2 * unvisited s
-    turn_falls v e f =
+    pub turn_falls : visited_at t at ≡ false → 2 * unvisited (visit_at t at) + 1 < 2 * unvisited s
+    turn_falls f =
         omega (
           arith,
-          ap unvisited e,
-          visit_falls t at in_range f (omega (arith, in_range, k.look.fitting.visited_all)),
-          unvisited_falls s t k.look.grows,
+          visit_falls t at in_range f (omega (arith, in_range, l.fitting.visited_all)),
+          unvisited_falls s t l.grows,
         )
 
-    module _ (v u : Trail) (e : v ≡ visit_at t at) (m : Moved d at v u) where
-      moved : Moved d at (visit_at t at) u
-      moved = subst (λ x. Moved d at x u) e m
+    module _ (u : Trail) where
+      pub turn_on : Moved ws at (visit_at t at) u false → Looking ws r s u (at + 1)
+      turn_on m = look_on ws r s t at l in_range u m
 
-      pub turn_on : u.found ≡ false → Turn d r last s u (at + 1)
-      turn_on f = next u (look_on d r s t at k.look in_range u moved f)
-
-      pub turn_taken : visited_at t at ≡ false → u.found ≡ true → (w : Trail) → w ≡ take_at u at (r + 1) → Sought d r s w
-      turn_taken g f w z = subst (Sought d r s) (sym (z ∙ ap (take_at u at) (omega arith))) (look_taken d r s t at k.look in_range g mine u moved f)
+      pub turn_taken : visited_at t at ≡ false → Moved ws at (visit_at t at) u true → Sought ws r s (take_at u at r) true
+      turn_taken f m = look_taken ws r s t at l in_range f mine u m
