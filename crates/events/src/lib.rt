@@ -1,49 +1,49 @@
-// The events of a call, counted into the counts of a tally in place. One that is refused changes nothing.
+// The events of a call, counted into a tally in place. One that is refused changes nothing.
 #![tactic(auto)]
 
 ghost use Rattle.std.specs.Prelude.{◌≡◌, [], ◌∷◌, map};
 ghost use Rattle.board.specs.Events.{admitted_kind, given_up_kind, withdrawn_kind, event, baked_events, fed};
-ghost use Rattle.tally.specs.Inner.Counts.{tally_of};
+ghost use Rattle.board.specs.Kinds.{kind_number};
 
-use board::Tally;
+use board::{Kind, Tally};
 
 // One event more, unless it is refused.
-fn feed(counts: &mut [u32; Tally::COUNTS], kind: u32, grade: u32)
-    ensures { tally_of counts.new ≡ fed (tally_of counts.old) (event kind grade ∷ []) }
+#[tactic(auto, unfolding(board::specs::Events::fed))]
+fn feed(tally: &mut Tally, kind: Kind, grade: u32)
+    ensures { tally.new ≡ fed tally.old (event (kind_number kind) grade ∷ []) }
 {
-    tally::count_into(counts, kind, grade);
+    let _ = tally::take_in(tally, kind, grade);
 }
 
 // Counts a job admitted.
-pub fn count_admitted(counts: &mut [u32; Tally::COUNTS], grade: u32)
-    ensures { tally_of counts.new ≡ fed (tally_of counts.old) (event admitted_kind grade ∷ []) }
+pub fn count_admitted(tally: &mut Tally, grade: u32)
+    ensures { tally.new ≡ fed tally.old (event admitted_kind grade ∷ []) }
 {
-    feed(counts, Tally::ADMITTED, grade);
+    feed(tally, Kind::Admitted, grade);
 }
 
 // Counts a job withdrawn.
-pub fn count_withdrawn(counts: &mut [u32; Tally::COUNTS], grade: u8)
-    ensures { tally_of counts.new ≡ fed (tally_of counts.old) (event withdrawn_kind grade ∷ []) }
+pub fn count_withdrawn(tally: &mut Tally, grade: u8)
+    ensures { tally.new ≡ fed tally.old (event withdrawn_kind grade ∷ []) }
 {
-    feed(counts, Tally::WITHDRAWN, grade as u32);
+    feed(tally, Kind::Withdrawn, u32::from(grade));
 }
 
-// Counts the job baked, if there is one: ticket 0 is none.
-pub fn count_baked(counts: &mut [u32; Tally::COUNTS], ticket: u32, grade: u8)
-    ensures { tally_of counts.new ≡ fed (tally_of counts.old) (baked_events ticket grade) }
+// Counts the job baked, if there is one. Ticket 0 is none, as in the C struct `Closed` and in `baked_events`.
+#[tactic(auto, unfolding(board::specs::Events::baked_kind, board::specs::Events::baked_events, board::specs::Events::fed))]
+pub fn count_baked(tally: &mut Tally, ticket: u32, grade: u8)
+    ensures { tally.new ≡ fed tally.old (baked_events ticket grade) }
 {
     if ticket != 0 {
-        feed(counts, Tally::BAKED, grade as u32);
+        feed(tally, Kind::Baked, u32::from(grade));
     }
 }
 
 // Counts the jobs given up, by their grades.
-pub fn count_given_up(counts: &mut [u32; Tally::COUNTS], grades: &[u8])
-    ensures { tally_of counts.new ≡ fed (tally_of counts.old) (map (event given_up_kind) grades.now) }
+pub fn count_given_up(tally: &mut Tally, grades: &[u8])
+    ensures { tally.new ≡ fed tally.old (map (event given_up_kind) grades.now) }
 {
-    let mut i: usize = 0;
-    while i < grades.len() {
-        feed(counts, Tally::GIVEN_UP, grades[i] as u32);
-        i += 1;
+    for grade in grades {
+        feed(tally, Kind::GivenUp, u32::from(*grade));
     }
 }

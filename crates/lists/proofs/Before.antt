@@ -4,12 +4,16 @@ use mathlib.Core.Bool.{true, false, not}
 use mathlib.Core.List.{List, [], ◌∷◌, ◌++◌}
 use mathlib.Core.Logic.{◌⊎◌, inl, inr}
 use Prim.Native.Nat.{ℕ, suc, ◌+◌, ◌≤◌, ◌<◌}
-use native.Mathlib.Numerals.{add-one}
+use native.Mathlib.Numerals.{add-one, one-add}
 use native.Mathlib.Omega.{arith}
-use borrow.Author.Tests.{eqb-true, eq-eqb, ne_eqb}
+use borrow.Author.Tests.{ltb-false, eqb-true, eq-eqb, ne_eqb}
 use lib.Dec.{eqb}
-use lib.ListN.{length, get_or, take, drop, drop_of_length-le}
-use lib.Seq.{drop-cons}
+use Rattle.std.proofs.Common.{Bool, cond, Option, ltb, Some, None}
+use Rattle.std.specs.List.{slice_range, position, position_or_len}
+use Rattle.std.specs.Option.{unwrap_or}
+use Rattle.std.proofs.lemmas.List.Recursion.{is_position_or_len}
+use lib.ListN.{length, get_or, take, drop, drop_of_length-le, length-drop}
+use lib.Seq.{drop-cons, take-length}
 use Rattle.lists.specs.Select.{every}
 use Rattle.lists.specs.Before.{before}
 use Rattle.lists.proofs.Tests.{test, cond_true, cond_false, and_intro}
@@ -23,6 +27,11 @@ module _ (x y : ℕ) (l : List ℕ) where
   unfolding before
   before_later h = cond_false (eqb y x) _ _ h
 
+-- std's word for it
+pub before_is : (x : ℕ) (l : List ℕ) → before x l ≡ position_or_len (λ y. eqb y x) l
+unfolding before
+before_is x l = is_position_or_len (before x) (λ y. eqb y x) refl (λ y r. rw one-add refl) l
+
 pub before_within : (x : ℕ) (l : List ℕ) → before x l ≤ length l
 unfolding before
 before_within x [] = omega arith
@@ -31,6 +40,20 @@ before_within x (y ∷ l) = go (test (eqb y x)) (before_within x l)
     go : (eqb y x ≡ true) ⊎ (eqb y x ≡ false) → before x l ≤ length l → before x (y ∷ l) ≤ length (y ∷ l)
     go (inl h) e = omega (arith, before_here x y l h)
     go (inr h) e = omega (arith, before_later x y l h)
+
+pub before_place : (x : ℕ) (l : List ℕ) → unwrap_or (position (λ y. eqb y x) l) (length l) ≡ before x l
+before_place x l = go (ltb (position_or_len (λ y. eqb y x) l) (length l)) refl
+  where
+    go : (t : Bool) → ltb (position_or_len (λ y. eqb y x) l) (length l) ≡ t → unwrap_or (cond t (Some (position_or_len (λ y. eqb y x) l)) None) (length l) ≡ before x l
+    go true e = sym (before_is x l)
+    go false e = omega (arith, ltb-false, before_is x l, before_within x l)
+
+-- in what is left of the bytes from a place on
+pub next_place : (x from : ℕ) (bytes rest : List ℕ) (o : Option ℕ) → rest ≡ slice_range bytes from (length bytes) → o ≡ position (λ y. eqb y x) rest
+    → unwrap_or o (length rest) ≡ before x (drop from bytes)
+next_place x from bytes rest o r p =
+    let left : rest ≡ drop from bytes = r ∙ ap (λ (n : ℕ). take n (drop from bytes)) (sym (length-drop from bytes)) ∙ take-length (drop from bytes) in
+    ap (λ (q : Option ℕ). unwrap_or q (length rest)) p ∙ before_place x rest ∙ ap (before x) left
 
 -- none of them is x
 pub before_other : (x : ℕ) (l : List ℕ) → every (λ y. not (eqb y x)) (take (before x l) l) ≡ true

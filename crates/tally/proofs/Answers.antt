@@ -1,24 +1,33 @@
 -- What `counted` is in each of the two refusals; where none is given, board's `taken` says it.
 use mathlib.Core.Path.{◌≡◌}
-use mathlib.Core.Bool.{true, false, ◌||◌}
-use Prim.Native.Nat.{ℕ, ◌≤◌}
-use lib.Dec.{leb}
-use borrow.Author.Tests.{leb-false, lt-leb, le-leb}
-use Rattle.lists.proofs.Tests.{or_false}
+use Prim.Native.Nat.{ℕ, ◌≤◌, ◌<◌}
+use native.Mathlib.Omega.{arith}
+use borrow.Author.Tests.{lt-leb, le-leb}
 use Rattle.board.specs.declared.Tally.{Tally}
+use Rattle.board.specs.declared.kind.Kind.{Kind}
+use Rattle.board.specs.declared.kind.Kind.TheVariants.{Admitted, Baked, GivenUp, Withdrawn}
 use Rattle.board.specs.Rows.{◌if◌, first_given}
+use Rattle.board.specs.Events.{admitted_kind, baked_kind, given_up_kind, withdrawn_kind}
+use Rattle.board.specs.Kinds.{kind_number}
 use Rattle.board.specs.Tally.{tally_kinds, tally_grades, tally_most, count_at, tally_number, counted_if, counted}
 use Rattle.board.proofs.Tallies.CountAt.{Cell}
 
-pub inside : (k g : ℕ) → (leb tally_kinds k || leb tally_grades g) ≡ false → Cell k g
-inside k g h =
-    let both = or_false (leb tally_kinds k) (leb tally_grades g) h in
-    record { kind = leb-false tally_kinds k both.0; grade = leb-false tally_grades g both.1 }
+-- each kind has a number
+pub kind_inside : (k : Kind) → kind_number k < tally_kinds
+unfolding tally_kinds admitted_kind baked_kind given_up_kind withdrawn_kind
+kind_inside Admitted = omega arith
+kind_inside Baked = omega arith
+kind_inside GivenUp = omega arith
+kind_inside Withdrawn = omega arith
 
-pub no_such_count : (t : Tally) (k g : ℕ) → (leb tally_kinds k || leb tally_grades g) ≡ true → counted t k g ≡ record { refusal = 9; tally = t }
+pub no_such_kind : (t : Tally) (k g : ℕ) → tally_kinds ≤ k → record { refusal = 9; tally = t } ≡ counted t k g
 unfolding counted counted_if tally_number first_given ◌if◌
-no_such_count t k g h = simp h
+no_such_kind t k g h = simp (le-leb tally_kinds k h)
 
-pub count_full : (t : Tally) (k g : ℕ) → Cell k g → tally_most ≤ count_at t k g → counted t k g ≡ record { refusal = 10; tally = t }
+pub no_such_grade : (t : Tally) (k g : ℕ) → k < tally_kinds → tally_grades ≤ g → record { refusal = 9; tally = t } ≡ counted t k g
+unfolding counted counted_if tally_number first_given ◌if◌
+no_such_grade t k g i h = simp (lt-leb tally_kinds k i, le-leb tally_grades g h)
+
+pub count_full : (t : Tally) (k g : ℕ) → Cell k g → tally_most ≤ count_at t k g → record { refusal = 10; tally = t } ≡ counted t k g
 unfolding counted counted_if tally_number first_given ◌if◌
 count_full t k g c h = simp (lt-leb tally_kinds k c.kind, lt-leb tally_grades g c.grade, le-leb tally_most (count_at t k g) h)

@@ -1,11 +1,12 @@
 // The tally: a count for each kind of event and each grade, kept by the caller.
 #![tactic(auto)]
 
-ghost use Rattle.std.specs.Prelude.{◌≡◌, ◌||◌, leb};
-ghost use Rattle.board.specs.Tally.{tally_kinds, tally_grades, zero_tally, counted};
-ghost use Rattle.tally.specs.Inner.Counts.{tally_of};
+ghost use Rattle.std.specs.Prelude.{◌≡◌};
+ghost use Rattle.board.specs.Kinds.{kind_number};
+ghost use Rattle.board.specs.Refusals.{refusal_number};
+ghost use Rattle.board.specs.Tally.{zero_tally, counted};
 
-use board::{Counted, Tally};
+use board::{Counted, Kind, Refusal, Tally};
 
 // A new tally.
 pub fn zero() -> Tally
@@ -16,38 +17,38 @@ pub fn zero() -> Tally
     }
 }
 
-// Whether the tally has no count for such an event.
-fn outside(kind: u32, grade: u32) -> bool
-    ensures { result ≡ (leb tally_kinds kind || leb tally_grades grade) }
+// Takes in one event of this kind, with a grade. Rows 9 and 10: the tally is then as before.
+#[tactic(auto, using(crate::proofs::Answers::kind_inside), unfolding(board::specs::Tally::tally_kinds))]
+pub fn take_in(tally: &mut Tally, kind: Kind, grade: u32) -> Result<(), Refusal>
+    ensures { record { refusal = refusal_number result; tally = tally.new } ≡ counted tally.old (kind_number kind) grade }
 {
-    if Tally::KINDS <= kind as usize {
-        return true;
+    if Tally::GRADES <= grade as usize {
+        return Err(Refusal::NoSuchEvent);
     }
-    Tally::GRADES <= grade as usize
+    let at = kind.number() as usize * Tally::GRADES + grade as usize;
+    let n = tally.counts[at];
+    if Tally::MOST <= n {
+        return Err(Refusal::CountFull);
+    }
+    tally.counts[at] = n + 1;
+    Ok(())
 }
 
-// Takes in one event: kind 0 admitted, 1 baked, 2 given up, 3 withdrawn, with a grade. Numbers 9 and 10; the counts are then as before.
-pub fn count_into(counts: &mut [u32; Tally::COUNTS], kind: u32, grade: u32) -> u8
-    ensures { record { refusal = result; tally = tally_of counts.new } ≡ counted (tally_of counts.old) kind grade }
+// The same by the number of the kind: 0 admitted, 1 baked, 2 given up, 3 withdrawn.
+pub fn count_into(tally: &mut Tally, kind: u32, grade: u32) -> Result<(), Refusal>
+    ensures { record { refusal = refusal_number result; tally = tally.new } ≡ counted tally.old kind grade }
 {
-    if outside(kind, grade) {
-        return 9;
-    }
-    let at = kind as usize * Tally::GRADES + grade as usize;
-    let n = counts[at];
-    if Tally::MOST <= n {
-        return 10;
-    }
-    counts[at] = n + 1;
-    0
+    take_in(tally, Kind::try_from(kind)?, grade)
 }
 
 // The same of a tally by value.
 pub fn count_event(t: Tally, kind: u32, grade: u32) -> Counted
     ensures { result ≡ counted t kind grade }
 {
-    let mut counts = t.counts;
-    let refusal = count_into(&mut counts, kind, grade);
-    let tally = Tally { counts };
+    let mut tally = t;
+    let refusal = match count_into(&mut tally, kind, grade) {
+        Ok(()) => 0,
+        Err(refusal) => refusal.number(),
+    };
     Counted { refusal, tally }
 }

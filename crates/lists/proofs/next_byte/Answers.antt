@@ -1,18 +1,11 @@
-use Rattle.std.proofs.Common.{arith}
-use Rattle.lists.proofs.Before.{before_at, before_on, before_past}
+use Rattle.std.proofs.Common.{arith, ap, ◌+◌, ◌∙◌}
+use Rattle.lists.proofs.Before.{before_past, next_place}
 use Rattle.lists.proofs.next_byte.Goals as goal
 
-pub returns-then-bytes-at : goal.returns-then-bytes-at
-returns-then-bytes-at c =
+pub returns-in-Some : goal.returns-in-Some
+returns-in-Some c =
     let a = c.args in
-    omega (arith, before_at a.byte a.bytes.now c.loop-at.at c.loop-at-test.true c.if-bytes-at.true, c.loop-at.invariant)
+    ap (a.from +◌) (c.unwrap_or.ensures ∙ next_place a.byte a.from a.bytes.now _ _ c.in-Some.ensures.lookup.0.2 c.place_of.ensures)
 
-pub loop-at-preserved : goal.loop-at-preserved
-loop-at-preserved c =
-    let a = c.args in
-    omega (arith, before_on a.byte a.bytes.now c.loop-at.at c.loop-at-test.true c.if-bytes-at.false, c.loop-at.invariant)
-
-pub returns : goal.returns
-returns c =
-    let a = c.args in
-    omega (arith, before_past a.byte a.bytes.now c.loop-at.at c.loop-at-test.false, c.loop-at.invariant)
+pub returns-in-None : goal.returns-in-None
+returns-in-None c = omega (arith, before_past c.args.byte c.args.bytes.now c.args.from, c.in-None.ensures.lookup.0)
