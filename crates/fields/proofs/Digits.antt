@@ -101,12 +101,12 @@ module _ (f : Bytes) where
   in_range h k e m = simp (le-leb 1 (length f) h, le-leb (length f) 10 k, e, le-leb (value f) 4_294_967_295 m)
 
   -- so it is one where its value is as great as the code's numbers may be
-  module _ (h : 1 ≤ length f) (k : length f ≤ 10) (d : every is_digit f ≡ true) where
+  module _ (h : 1 ≤ length f) (k : length f ≤ 10) (d : every is_digit f ≡ true) (v : ℕ) (w : v ≡ value f) where
     pub by_value : {E : Type 0} {N : E → Refusal → Type 0} (t : Tried ℕ E) (r : Tried ℕ Refusal)
-        → OkIff t (value f < 2 ^ 32) (value f)
+        → OkIff t (v < 2 ^ 32) v
         → MatchResult t (λ x. r ≡ Ok x) (λ e. IsErrAnd r (N e))
         → ((e : E) (n : Refusal) → N e n → n ≡ NotANumber)
         → field_result r ≡ field_read a_number f
-    by_value (Ok x) r c m n = ap field_result (m ∙ ap Ok c.1) ∙ in_range h k d (omega (arith, c.0))
+    by_value (Ok x) r c m n = ap field_result (m ∙ ap Ok (c.1 ∙ w)) ∙ in_range h k d (omega (arith, c.0, w))
     by_value (Err e) (Ok x) c m n = absurd m
-    by_value (Err e) (Err y) c m n = ap (λ (y : Refusal). field_result (Err y)) (n e y m) ∙ too_great (omega (arith, c))
+    by_value (Err e) (Err y) c m n = ap (λ (y : Refusal). field_result (Err y)) (n e y m) ∙ too_great (omega (arith, c, w))

@@ -28,5 +28,5 @@ loop-b-preserved c = one_more _ _ _ c.loop-b.invariant c.loop-b-test.true (searc
 pub returns : goal.returns
 returns c =
     let i = c.loop-b.invariant in
-    let w = all_worth _ _ _ i c.loop-b-test.false in
-    by_value _ (omega arith) (omega arith) (all_digits _ _ _ i c.loop-b-test.false) _ _ (rw w at c.try_from.ensures) c.map_err.ensures.cases (λ e n k. search rules)
+    let all = c.loop-b-test.false in
+    by_value _ (omega arith) (omega arith) (all_digits _ _ _ i all) _ (all_worth _ _ _ i all) _ _ c.try_from.ensures c.map_err.ensures.cases (λ e n k. search rules)
