@@ -39,8 +39,8 @@ returns c h =
     let b = c.number_at-second.ensures in
     let d = c.grade_at-third.ensures in
     let values =
-        three_values line _ _ _
-        (a.1 ∙ ap (field_read a_number) (sym (behind_letter line h 0)))
-        (b.1 ∙ ap (field_read a_number) (sym (second line h _ a.0)))
-        (d.1 ∙ ap (field_read a_grade) (sym (third line h _ a.0 _ b.0))) in
+    three_values line _ _ _
+    (a.1 ∙ ap (field_read a_number) (sym (behind_letter line h 0)))
+    (b.1 ∙ ap (field_read a_number) (sym (second line h _ a.0)))
+    (d.1 ∙ ap (field_read a_grade) (sym (third line h _ a.0 _ b.0))) in
     both _ _ _ _ (four line h _ a.0 _ b.0 _ d.0) (ap asked_result c.admit.ensures ∙ values)

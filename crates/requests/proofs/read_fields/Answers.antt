@@ -1,5 +1,5 @@
 -- `read_fields` answers as the reader of the letter's line does.
-use mathlib.Core.Path.{refl, ◌∙◌}
+use mathlib.Core.Path.{◌∙◌}
 use borrow.Author.Rules.{rules}
 use Rattle.lines.specs.Bytes.{letter_A, letter_B, letter_D, letter_Q, letter_W}
 use Rattle.lines.specs.Fields.{is_letter}

@@ -2,7 +2,6 @@
 use Rattle.std.specs.Prelude.{◌≡◌, Bool, not, List, [], ◌∷◌, ℕ, eqb, length, Result as Tried, Ok, Err, IsOkAnd, MatchResult}
 use Rattle.std.proofs.Math.Option.{Option, none, some}
 use Rattle.board.specs.Rows.{◌if◌}
-use Rattle.board.specs.declared.Laxity.{Laxity}
 use Rattle.board.specs.declared.refusal.Refusal.{Refusal}
 use Rattle.lines.specs.Bytes.{Bytes, fields}
 use Rattle.lines.specs.Fields.{Kind, a_number}

@@ -1,8 +1,5 @@
 -- `number_at` reads the bytes from where the field begins to where it ends; past the line's end there are none.
-use Prim.Native.Nat.{◌+◌, ◌≤◌, ◌<◌}
 use mathlib.Core.Path.{refl, ap, ◌∙◌}
-use native.Mathlib.Omega.{arith}
-use borrow.Author.Rules.{rules}
 use Rattle.lines.specs.Bytes.{comma}
 use Rattle.lines.specs.Fields.{a_number}
 use Rattle.fields.specs.Numbers.{field_read}

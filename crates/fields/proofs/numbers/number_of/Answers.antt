@@ -1,7 +1,4 @@
 -- `number_of` answers the number of a field's bytes: each way out has passed the tests before it.
-use Prim.Native.Nat.{◌≤◌}
-use mathlib.Core.Path.{◌≡◌, sym, ap, ◌∙◌}
-use mathlib.Core.Bool.{true, false}
 use native.Mathlib.Omega.{arith}
 use borrow.Author.Rules.{rules}
 use Rattle.lines.specs.Fields.{is_digit}
