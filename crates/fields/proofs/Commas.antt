@@ -3,11 +3,15 @@ use mathlib.Core.Path.{◌≡◌, refl, sym, ap, ◌∙◌}
 use mathlib.Core.List.{List, [], ◌∷◌}
 use mathlib.Core.Bool.{true, false}
 use mathlib.Core.Logic.{◌⊎◌, inl, inr}
-use Prim.Native.Nat.{ℕ, zero, suc, ◌+◌, ◌≤◌, ◌<◌}
+use Prim.Native.Nat.{ℕ, zero, suc, ◌+◌, ◌-◌, ◌≤◌, ◌<◌}
 use native.Mathlib.Numerals.{add-one}
 use native.Mathlib.Omega.{arith}
 use lib.Dec.{eqb}
-use lib.ListN.{length, get_or, take, drop, drop_of_length-le, length-take}
+use denote.Ref.{Bor}
+use Rattle.std.specs.Prelude.{Option, Some, None}
+use Rattle.std.specs.Option.{unwrap_or}
+use Rattle.std.specs.List.{PartBy}
+use lib.ListN.{length, get_or, take, drop, drop_of_length-le, length-take, length-drop}
 use lib.Seq.{drop-cons}
 use borrow.Author.Tests.{eq-eqb, ne_eqb}
 use Rattle.lists.specs.Before.{before}
@@ -123,3 +127,13 @@ module _ (l : Bytes) (at : ℕ) where
 
     pub first_on : (get_or l at 0 ≡ comma → ⊥) → field 0 (drop at l) ≡ get_or l at 0 ∷ field 0 (drop (at + 1) l)
     first_on e = ap (field 0) step ∙ first_other _ _ (ne_eqb _ _ e)
+
+-- The bytes of a line from where a field begins to where it ends, or none where there is no such range: the field.
+module _ (l : Bytes) (at end : ℕ) (e : end ≡ at + before comma (drop at l)) where
+  pub field_between : (o : Option (Bor Bytes)) (none b : Bor Bytes) → none.now ≡ [] → b ≡ unwrap_or o none → PartBy (λ (x : Bor Bytes). x.now) l at end o → b.now ≡ field 0 (drop at l)
+  field_between None none b z r m =
+      let k : length l ≤ at = omega (arith, m.0, before_within comma (drop at l), length-drop at l) in
+      ap (λ (x : Bor Bytes). x.now) r ∙ z ∙ sym (first_past l at k)
+  field_between (Some x) none b z r m =
+      let k : end - at ≡ before comma (drop at l) = omega (arith, e) in
+      ap (λ (x : Bor Bytes). x.now) r ∙ m.0.2 ∙ ap (λ (n : ℕ). take n (drop at l)) k ∙ first_field (drop at l)

@@ -8,8 +8,8 @@ ghost use Rattle.lines.specs.Reading.{field};
 ghost use Rattle.fields.specs.Numbers.{field_read};
 ghost use Rattle.fields.specs.Grades.{grade_of, grade_result};
 
-use crate::numbers::{Field, number_at};
-use board::Board;
+use crate::numbers::number_at;
+use board::{Board, Refusal};
 
 // A grade as a line has it.
 #[derive(Clone, Copy)]
@@ -18,17 +18,10 @@ pub enum Grade {
     Blank,
 }
 
-// A grade field's answer: the grade, or that row 14 refuses it.
-#[derive(Clone, Copy)]
-pub enum GradeField {
-    Is(Grade),
-    Bad,
-}
-
-// A grade field's answer, and where the field ends.
+// A field's grade, or row 14, and where the field ends.
 #[derive(Clone, Copy)]
 pub struct GradeAt {
-    pub grade: GradeField,
+    pub grade: Result<Grade, Refusal>,
     pub end: usize,
 }
 
@@ -42,19 +35,12 @@ pub fn grade_at(line: &[u8], from: usize) -> GradeAt
     let bytes = end - from;
     if bytes == 0 {
         return GradeAt {
-            grade: GradeField::Is(Grade::Blank),
+            grade: Ok(Grade::Blank),
             end,
         };
     }
-    let number = read.number;
-    let Field::Number(n) = number else {
-        return GradeAt {
-            grade: GradeField::Bad,
-            end,
-        };
-    };
     GradeAt {
-        grade: GradeField::Is(Grade::Number(n)),
+        grade: read.number.map(Grade::Number),
         end,
     }
 }

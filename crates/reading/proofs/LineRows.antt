@@ -7,35 +7,23 @@ use Prim.Native.Nat.{ℕ, suc, ◌≤◌, ◌<◌}
 use lib.ListN.{length, drop}
 use lib.Dec.{eqb}
 use borrow.Author.Tests.{lt-ltb, le-ltb}
+use Rattle.std.specs.Prelude.{Ok, Err}
 use Rattle.lists.proofs.Tests.{cond_true}
 use Rattle.board.specs.Rows.{Row, ◌if◌, first_given}
 use Rattle.board.proofs.Calls.Rows.{row_skipped}
+use Rattle.board.specs.declared.refusal.Refusal.{Refusal}
+use Rattle.board.specs.Refusals.{number_of}
 use Rattle.lines.specs.Bytes.{Bytes, fields}
-use Rattle.lines.specs.Reading.{Request, Form, form_of, field, longest_line, too_long, fields_wanted, readable, out_of_turn, form_rows, line_rows, line_number, with_values, request_by, request}
+use Rattle.lines.specs.Reading.{Form, form_of, field, longest_line, too_long, fields_wanted, readable, out_of_turn, form_rows, line_rows, line_number, with_values, request_by, request}
 use Rattle.requests.specs.declared.Asked.{Asked}
-use Rattle.requests.specs.declared.Asked.TheVariants.{Open, Admit, Close, Promise, Withdraw, Refused}
-use Rattle.reading.specs.declared.Letter.TheVariants.{Is, Other}
 use Rattle.requests.specs.declared.Read.{Read}
-use Rattle.requests.specs.Answers.{asked_result}
+use Rattle.requests.specs.Answers.{request_of, asked_result}
 use Rattle.reading.specs.Answers.{line_result}
 use Rattle.fields.specs.Results.{result}
 use Rattle.requests.specs.Inner.Parts.{fields_read, read_result, form_read, after_letter}
-use Rattle.reading.specs.Inner.Parts.{letter_result, letter_read}
+use Rattle.reading.specs.Inner.Parts.{letter_read}
 use Rattle.requests.proofs.Results.{row_given, row_not_given}
 use Rattle.reading.proofs.Letters.{other_says, Known, letter_says}
-
--- the answer asks for something: it refuses nothing
-abbrev pub AsksFor : Asked → Type 0
-AsksFor a = (n : ℕ) → a ≡ Refused n → ⊥
-
-asks : (a : Asked) → AsksFor a → (q : Request) × (asked_result a ≡ (0, some q))
-unfolding asked_result
-asks (Open d) h = (_, refl)
-asks (Admit t w g) h = (_, refl)
-asks Close h = (_, refl)
-asks Promise h = (_, refl)
-asks (Withdraw t) h = (_, refl)
-asks (Refused n) h = absurd (h n refl)
 
 -- a line is out of turn where one of the two holds: it is for a board that is open, one is open
 turn_test : (f o : Bool) → out_of_turn f o ≡ not (beq o f)
@@ -60,11 +48,11 @@ module _ (o : Bool) (l : Bytes) where
     unfolding line_number line_rows too_long
     past_11 e = row_skipped 11 _ _ (le-ltb longest_line (length l) short) ∙ ap (λ q. first_given (form_rows q o l)) e
 
-    pub row_12 : letter_result Other ≡ letter_read (field 0 l) → (12, none) ≡ line_result o l
+    pub row_12 : (12, none) ≡ letter_read (field 0 l) → (12, none) ≡ line_result o l
     unfolding form_of form_rows
     row_12 e = given 11 true [] (past_11 (other_says (field 0 l) e)) refl
 
-    module _ (c : ℕ) (t : Bool) (e : letter_result (Is c t) ≡ letter_read (field 0 l)) (r : Read) (d : read_result r ≡ after_letter c l) where
+    module _ (c : ℕ) (t : Bool) (e : (0, some (c, t)) ≡ letter_read (field 0 l)) (r : Read) (d : read_result r ≡ after_letter c l) where
       known : Known (field 0 l) c t
       known = letter_says (field 0 l) c t e
 
@@ -77,34 +65,34 @@ module _ (o : Bool) (l : Bytes) where
       unfolding after_letter form_read
       form_says = d ∙ ap (λ (q : Option Form). form_read q l) known.of_letter
 
-      counted : not (eqb (length (fields l)) (fields_wanted known.form)) ≡ not r.1
+      counted : not (eqb (length (fields l)) (fields_wanted known.form)) ≡ not r.whole
       unfolding read_result
       counted = ap not (sym (ap (λ p. p.0) form_says))
 
-      fields_say : asked_result r.0 ≡ fields_read known.form.after known.form.asks 1 l
+      fields_say : asked_result r.asked ≡ fields_read known.form.after known.form.asks 1 l
       unfolding read_result
       fields_say = ap (λ p. p.1) form_says
 
-      pub row_13 : not r.1 ≡ true → (13, none) ≡ line_result o l
+      pub row_13 : not r.whole ≡ true → (13, none) ≡ line_result o l
       unfolding form_rows
       row_13 h = given 12 _ _ past_12 (counted ∙ h)
 
-      module _ (k : not r.1 ≡ false) where
+      module _ (k : not r.whole ≡ false) where
         past_13 : line_number o l ≡ first_given (drop 1 (form_rows (some known.form) o l))
         unfolding form_rows
         past_13 = past_12 ∙ row_skipped 13 _ _ (counted ∙ k)
 
-        pub row_14 : (m : ℕ) → asked_result r.0 ≡ asked_result (Refused m) → asked_result (Refused m) ≡ line_result o l
-        unfolding asked_result form_rows fields_read
-        row_14 m a =
-            let g = row_given 13 _ _ m (sym a ∙ fields_say) in
+        pub row_14 : (y : Refusal) → r.asked ≡ Err y → asked_result (Err y) ≡ line_result o l
+        unfolding form_rows fields_read
+        row_14 y a =
+            let g = row_given 13 _ _ (number_of y) (sym (ap asked_result a) ∙ fields_say) in
             ap (λ (i : ℕ). (i, none)) g.1 ∙ given 13 _ _ past_13 g.0
 
-        module _ (h : AsksFor r.0) where
+        module _ (a : Asked) (h : r.asked ≡ Ok a) where
           -- the fields are readable, and the request is the line's
-          readable_here : (not (readable known.form.after 1 l) ≡ false) × (with_values known.form.after known.form.asks 1 l ≡ (asks r.0 h).0)
+          readable_here : (not (readable known.form.after 1 l) ≡ false) × (with_values known.form.after known.form.asks 1 l ≡ request_of a)
           unfolding fields_read
-          readable_here = row_not_given 13 _ _ (asks r.0 h).0 (sym (asks r.0 h).1 ∙ fields_say)
+          readable_here = row_not_given 13 _ _ (request_of a) (sym (ap asked_result h) ∙ fields_say)
 
           past_14 : line_number o l ≡ first_given (drop 2 (form_rows (some known.form) o l))
           unfolding form_rows
@@ -117,9 +105,9 @@ module _ (o : Bool) (l : Bytes) where
           unfolding form_rows
           row_15 g = given 14 _ [] past_14 (turn_here ∙ g)
 
-          pub through : not (beq o t) ≡ false → asked_result r.0 ≡ line_result o l
+          pub through : not (beq o t) ≡ false → asked_result (Ok a) ≡ line_result o l
           unfolding form_rows first_given line_result result request form_of request_by
           through g =
               let n : line_number o l ≡ 0 = past_14 ∙ row_skipped 15 _ [] (turn_here ∙ g) in
-              let q : request l ≡ (asks r.0 h).0 = ap (λ (q : Option Form). request_by q l) known.of_field ∙ readable_here.1 in
-              (asks r.0 h).1 ∙ sym (ap₂ result n q)
+              let q : request l ≡ request_of a = ap (λ (q : Option Form). request_by q l) known.of_field ∙ readable_here.1 in
+              sym (ap₂ result n q)

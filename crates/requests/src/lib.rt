@@ -1,19 +1,21 @@
 // What the fields of a line ask for, behind its letter: row 14, or a request.
 #![tactic(auto)]
 
-ghost use Rattle.std.specs.Prelude.{◌≡◌, length};
-ghost use Rattle.lines.specs.Bytes.{letter_A, letter_D, letter_W};
+ghost use Rattle.std.specs.Prelude.{◌≡◌, eqb, length};
+ghost use Rattle.std.proofs.Math.Option.{some};
+ghost use Rattle.lines.specs.Bytes.{letter_A, fields as fields_of};
 ghost use Rattle.lines.specs.Reading.{field};
-ghost use Rattle.requests.specs.Inner.Parts.{read_result, after_letter};
+ghost use Rattle.requests.specs.Answers.{request_of};
+ghost use Rattle.requests.specs.Inner.Parts.{read_result, after_letter, admits, OneNumber};
 
-use board::Laxity;
-use fields::grades::{Grade, GradeField, grade_at};
-use fields::numbers::{Field, number_at};
+use board::{Laxity, Refusal};
+use fields::grades::{Grade, grade_at};
+use fields::numbers::number_at;
 
 // Where a first field of one byte ends. The next begins one further.
 pub const LETTER_END: usize = 1;
 
-// What a line asks for, or the number of the first of rows 11 to 15 that refuses it.
+// What a line asks for.
 #[derive(Clone, Copy)]
 pub enum Asked {
     // A depth.
@@ -25,24 +27,48 @@ pub enum Asked {
     Promise,
     // A ticket to take off.
     Withdraw(u32),
-    Refused(u8),
 }
 
 // What the fields of a line ask for, or row 14; and whether the line has these fields, and no other.
 #[derive(Clone, Copy)]
-pub struct Read(pub Asked, pub bool);
+pub struct Read {
+    pub asked: Result<Asked, Refusal>,
+    pub whole: bool,
+}
 
-// The field of a line that opens: row 14, or the depth.
-fn read_open(line: &[u8]) -> Read
-    ensures { length (field 0 line.now) ≡ 1 → read_result result ≡ after_letter letter_D line.now }
+// The fields of a line that has none behind its letter, and asks for this.
+fn read_alone(line: &[u8], asked: Asked) -> Read
+    ensures { length (field 0 line.now) ≡ 1 → read_result result ≡ (eqb (length (fields_of line.now)) 1, (0, some (request_of asked))) }
 {
-    let depth_at = number_at(line, LETTER_END + 1);
-    let whole = depth_at.end == line.len();
-    let number = depth_at.number;
-    let Field::Number(depth) = number else {
-        return Read(Asked::Refused(14), whole);
-    };
-    Read(Asked::Open(depth), whole)
+    let whole = LETTER_END == line.len();
+    Read {
+        asked: Ok(asked),
+        whole,
+    }
+}
+
+// The field of a line that has one number behind its letter: row 14, or what the number asks for.
+fn read_number<F: FnOnce(u32) -> Asked>(line: &[u8], asks: F) -> Read
+    requires { F.IsAlwaysCallable asks }
+    ensures { length (field 0 line.now) ≡ 1 → OneNumber (F.post asks) line.now result }
+{
+    let read = number_at(line, LETTER_END + 1);
+    let whole = read.end == line.len();
+    Read {
+        asked: read.number.map(asks),
+        whole,
+    }
+}
+
+// What a line that admits asks for, by its fields: the first that is refused, or the values.
+fn admit(
+    ticket: Result<u32, Refusal>,
+    laxity: Result<u32, Refusal>,
+    grade: Result<Grade, Refusal>,
+) -> Result<Asked, Refusal>
+    ensures { result ≡ admits ticket laxity grade }
+{
+    Ok(Asked::Admit(ticket?, Laxity(laxity?), grade?))
 }
 
 // The fields of a line that admits: row 14, or the values.
@@ -53,32 +79,10 @@ fn read_admit(line: &[u8]) -> Read
     let second = number_at(line, first.end + 1);
     let third = grade_at(line, second.end + 1);
     let whole = third.end == line.len();
-    let number = first.number;
-    let Field::Number(ticket) = number else {
-        return Read(Asked::Refused(14), whole);
-    };
-    let wait = second.number;
-    let Field::Number(laxity) = wait else {
-        return Read(Asked::Refused(14), whole);
-    };
-    let last = third.grade;
-    let GradeField::Is(grade) = last else {
-        return Read(Asked::Refused(14), whole);
-    };
-    Read(Asked::Admit(ticket, Laxity(laxity), grade), whole)
-}
-
-// The field of a line that withdraws: row 14, or the ticket.
-fn read_withdraw(line: &[u8]) -> Read
-    ensures { length (field 0 line.now) ≡ 1 → read_result result ≡ after_letter letter_W line.now }
-{
-    let ticket_at = number_at(line, LETTER_END + 1);
-    let whole = ticket_at.end == line.len();
-    let number = ticket_at.number;
-    let Field::Number(ticket) = number else {
-        return Read(Asked::Refused(14), whole);
-    };
-    Read(Asked::Withdraw(ticket), whole)
+    Read {
+        asked: admit(first.number, second.number, third.grade),
+        whole,
+    }
 }
 
 // The fields of a line that starts with this letter: row 14, or what it asks for.
@@ -86,10 +90,10 @@ pub fn read_fields(line: &[u8], letter: u8) -> Read
     ensures { length (field 0 line.now) ≡ 1 → read_result result ≡ after_letter letter line.now }
 {
     match letter {
-        b'D' => read_open(line),
+        b'D' => read_number(line, Asked::Open),
         b'A' => read_admit(line),
-        b'W' => read_withdraw(line),
-        b'Q' => Read(Asked::Promise, LETTER_END == line.len()),
-        _ => Read(Asked::Close, LETTER_END == line.len()),
+        b'W' => read_number(line, Asked::Withdraw),
+        b'Q' => read_alone(line, Asked::Promise),
+        _ => read_alone(line, Asked::Close),
     }
 }

@@ -10,7 +10,7 @@ use Rattle.lines.specs.Bytes.{comma, letter_A, letter_B, letter_D, letter_Q, let
 use Rattle.lines.specs.Fields.{is_letter}
 use Rattle.lines.specs.Reading.{forms, form_in, field}
 use Rattle.fields.proofs.Commas.{first_length}
-use Rattle.reading.specs.Inner.Parts.{letter_result, form_result, letter_read}
+use Rattle.reading.specs.Inner.Parts.{form_result, letter_read}
 use Rattle.reading.proofs.Letters.{first_byte, other_length}
 use Rattle.reading.proofs.letter_of.Goals as goal
 use Rattle.reading.proofs.letter_of.Goals.{Else-next_byte-ne-LETTER_END}
@@ -33,37 +33,37 @@ unfolding comma
 one c = omega (arith, c.next_byte.ensures, first_length c.args.line.now)
 
 pub returns-in-68 : goal.returns-in-68
-unfolding letter_result letter_read form_result form_in forms is_letter letter_A letter_B letter_D letter_Q letter_W
+unfolding letter_read form_result form_in forms is_letter letter_A letter_B letter_D letter_Q letter_W
 returns-in-68 c =
     let k = one (goal.at.returns-in-68 c).Else-next_byte-ne-LETTER_END in
     simp (first_byte c.args.line.now k, c.in-68.is)
 
 pub returns-in-65 : goal.returns-in-65
-unfolding letter_result letter_read form_result form_in forms is_letter letter_A letter_B letter_D letter_Q letter_W
+unfolding letter_read form_result form_in forms is_letter letter_A letter_B letter_D letter_Q letter_W
 returns-in-65 c =
     let k = one (goal.at.returns-in-65 c).Else-next_byte-ne-LETTER_END in
     simp (first_byte c.args.line.now k, c.in-65.is)
 
 pub returns-in-66 : goal.returns-in-66
-unfolding letter_result letter_read form_result form_in forms is_letter letter_A letter_B letter_D letter_Q letter_W
+unfolding letter_read form_result form_in forms is_letter letter_A letter_B letter_D letter_Q letter_W
 returns-in-66 c =
     let k = one (goal.at.returns-in-66 c).Else-next_byte-ne-LETTER_END in
     simp (first_byte c.args.line.now k, c.in-66.is)
 
 pub returns-in-81 : goal.returns-in-81
-unfolding letter_result letter_read form_result form_in forms is_letter letter_A letter_B letter_D letter_Q letter_W
+unfolding letter_read form_result form_in forms is_letter letter_A letter_B letter_D letter_Q letter_W
 returns-in-81 c =
     let k = one (goal.at.returns-in-81 c).Else-next_byte-ne-LETTER_END in
     simp (first_byte c.args.line.now k, c.in-81.is)
 
 pub returns-in-87 : goal.returns-in-87
-unfolding letter_result letter_read form_result form_in forms is_letter letter_A letter_B letter_D letter_Q letter_W
+unfolding letter_read form_result form_in forms is_letter letter_A letter_B letter_D letter_Q letter_W
 returns-in-87 c =
     let k = one (goal.at.returns-in-87 c).Else-next_byte-ne-LETTER_END in
     simp (first_byte c.args.line.now k, c.in-87.is)
 
 pub returns-in_default : goal.returns-in_default
-unfolding letter_result letter_read form_result form_in forms is_letter letter_A letter_B letter_D letter_Q letter_W
+unfolding letter_read form_result form_in forms is_letter letter_A letter_B letter_D letter_Q letter_W
 returns-in_default c =
     let k = one (goal.at.returns-in_default c).Else-next_byte-ne-LETTER_END in
     let b = get_or c.args.line.now 0 0 in

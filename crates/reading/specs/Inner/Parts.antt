@@ -1,16 +1,14 @@
 -- What a first field answers. Only promises inside this crate cite these; that of the whole is in Answers.
-use Rattle.std.specs.Prelude.{Bool, ℕ}
+use Rattle.std.specs.Prelude.{Bool, ℕ, Option as Perhaps, Some, None}
 use Rattle.std.proofs.Math.Option.{Option, none, some}
 use Rattle.lines.specs.Bytes.{Bytes}
 use Rattle.lines.specs.Reading.{Form, forms, form_in}
 use Rattle.fields.specs.Results.{Result}
-use Rattle.reading.specs.declared.Letter.{Letter}
-use Rattle.reading.specs.declared.Letter.TheVariants.{Is, Other}
 
 -- a first field's number and values: its letter, and whether the line is for a board that is open
-unfoldable pub letter_result : Letter → Result (ℕ × Bool)
-letter_result (Is c o) = (0, some (c, o))
-letter_result Other = (12, none)
+abbrev pub letter_result : Perhaps (ℕ × Bool) → Result (ℕ × Bool)
+letter_result (Some c) = (0, some c)
+letter_result None = (12, none)
 
 -- row 12, or the same of a form
 unfoldable pub form_result : Option Form → Result (ℕ × Bool)
