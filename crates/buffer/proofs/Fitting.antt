@@ -2,25 +2,15 @@
 use mathlib.Core.Path.{◌≡◌, refl, sym, subst, ap, ◌∙◌}
 use mathlib.Core.Bool.{Bool, true, false, cond}
 use mathlib.Core.List.{[]}
-use mathlib.Core.Logic.{◌⊎◌, inl, inr}
-use Prim.Native.Nat.{ℕ, ◌+◌, ◌-◌, ◌≤◌, ◌<◌}
+use Prim.Native.Nat.{ℕ, ◌+◌, ◌≤◌}
 use native.Mathlib.Omega.{arith}
 use lib.Dec.{leb}
 use lib.ListN.{length}
-use borrow.Author.Tests.{lt-leb, le-leb}
-use Rattle.lists.proofs.Tests.{cmp}
+use borrow.Author.Tests.{le-leb}
 use Rattle.lines.specs.Bytes.{Bytes}
 use Rattle.buffer.specs.Puts.{put}
 use Rattle.buffer.specs.Puts.{PutWithin, PutIf}
 use Rattle.buffer.proofs.Pieces.{put_as, put_nil}
-
--- no sum is needed
-pub leb_difference : (most at end : ℕ) → at ≤ end → leb most (end - at) ≡ leb (at + most) end
-leb_difference most at end h = go (cmp most (end - at))
-  where
-    go : (most ≤ end - at) ⊎ (end - at < most) → leb most (end - at) ≡ leb (at + most) end
-    go (inl k) = le-leb most (end - at) k ∙ sym (le-leb (at + most) end (omega arith))
-    go (inr k) = lt-leb most (end - at) k ∙ sym (lt-leb (at + most) end (omega arith))
 
 module _ {most : ℕ} {bs out : Bytes} {at r : ℕ} {out' : Bytes} where
   -- they fit and are put

@@ -6,7 +6,8 @@ use native.Mathlib.Nat.{add-zero}
 use native.Mathlib.Numerals.{add-one}
 use native.Mathlib.Omega.{arith}
 use lib.ListN.{length, take, drop, set, length-append, length-set, length-drop, take-append-drop}
-use lib.Seq.{take_at, drop_at, drop-drop, take-append-le, take-take, set_split, length-take-le, paste}
+use lib.Seq.{take_at, drop_at, drop-drop, take-append-le, take-take, set_split, length-take-le}
+use borrow.Rule.Slice.PartMut.{put_mid}
 use Rattle.lines.specs.Bytes.{Bytes}
 use Rattle.buffer.specs.Puts.{put}
 
@@ -68,9 +69,10 @@ pub put_none : (out : Bytes) (at : ℕ) → put out at [] ≡ out
 unfolding put
 put_none out at = rw add-zero (take-append-drop at out)
 
--- the first n bytes of a list, as a loop copies them
-pub put_taken : (out : Bytes) (at : ℕ) (l : Bytes) (n : ℕ) → n ≤ length l → paste out at l n ≡ put out at (take n l)
-put_taken out at l n h = rw (parted out at (take n l), length-take-le n l h)
+-- as `copy_from_slice` puts them into a part of the buffer that is as long
+pub put_copied : (out : Bytes) (at k : ℕ) (cs bs : Bytes) → cs ≡ bs → k ≡ length bs → put_mid at k out cs ≡ put out at bs
+unfolding put
+put_copied out at k cs bs e h = rw (e, h, drop-drop)
 
 -- the buffer is as long as before
 pub put_length : (out : Bytes) (at : ℕ) (bs : Bytes) → at + length bs ≤ length out → length (put out at bs) ≡ length out

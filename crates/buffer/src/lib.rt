@@ -8,13 +8,11 @@ ghost use Rattle.buffer.specs.Puts.{PutIf};
 pub fn room_for(most: usize, at: usize, end: usize) -> bool
     ensures { result ≡ leb (at + most) end }
 {
-    if end < at {
-        return false;
-    }
-    most <= end - at
+    at <= end && most <= end - at
 }
 
 // Puts the bytes at `at`; where they end. Where there is no room for them nothing is put, and that is `at`.
+// The C interface: this call and those that print take a slice and a place in it, and no `Vec`, since C lends the slice (`oven_page_print`).
 pub fn put_bytes(out: &mut [u8], at: usize, bytes: &[u8]) -> usize
     ensures { let bs = bytes.now in
         let fits = leb (at + length bs) (length out.old) in
@@ -24,10 +22,6 @@ pub fn put_bytes(out: &mut [u8], at: usize, bytes: &[u8]) -> usize
     if !room_for(len, at, out.len()) {
         return at;
     }
-    let mut i: usize = 0;
-    while i < len {
-        out[at + i] = bytes[i];
-        i += 1;
-    }
+    out[at..at + len].copy_from_slice(bytes);
     at + len
 }

@@ -1,5 +1,5 @@
 // One line of the program's output, put into a buffer that the caller lends: a letter, numbers each behind a comma, and a line end.
-#![tactic(auto)]
+#![tactic(auto, unfolding(crate::specs::Lines::line_digits, crate::specs::Lines::room))]
 
 ghost use Rattle.std.specs.Prelude.{[], ◌∷◌, ◌≡◌, ◌+◌, ◌/◌, ◌%◌, ◌≤◌, ◌<◌, leb, length, take};
 ghost use Rattle.lines.specs.Printing.{decimal, printed};
@@ -25,20 +25,20 @@ pub fn print_at(out: &mut [u8], at: usize, letter: u8, numbers: &[u64]) -> usize
     if !buffer::room_for(LINE_ROOM, at, out.len()) {
         return at;
     }
-    let count = lists::lesser(numbers.len(), LINE_NUMBERS);
+    let count = numbers.len().min(LINE_NUMBERS);
     out[at] = letter;
     let mut end = at + 1;
-    let mut i: usize = 0;
-    while i < count {
+    for n in &numbers[..count] {
         out[end] = b',';
-        end = put_number(out, end + 1, numbers[i]);
-        i += 1;
+        end = put_number(out, end + 1, *n);
     }
     out[end] = b'\n';
     end + 1
 }
 
 // Puts the digits of n at `at`, the last ones first and two at a time; where they end.
+// What may not change: nothing new is trusted, and with the kit's crate `itoa` the proofs would stand on its statements too.
+#[tactic(auto, using(crate::proofs::Decimals::length_two_more), unfolding(crate::specs::Lines::line_digits))]
 fn put_number(out: &mut [u8], at: usize, n: u64) -> usize
     requires { at + line_digits ≤ length out.old }
     ensures { PutWithin line_digits (decimal n) out.old at result out.new }
@@ -52,7 +52,7 @@ fn put_number(out: &mut [u8], at: usize, n: u64) -> usize
         rest /= 100;
     }
     if rest < 10 {
-        out[at] = (48 + rest) as u8;
+        out[at] = b'0' + rest as u8;
         return end;
     }
     put_pair(out, at, rest);
@@ -60,32 +60,21 @@ fn put_number(out: &mut [u8], at: usize, n: u64) -> usize
 }
 
 // Puts two digits at `at`, those of n.
+#[tactic(auto, using(buffer::proofs::Puts::put_two))]
 fn put_pair(out: &mut [u8], at: usize, n: u64)
     requires { (n < 100) × (at + 1 < length out.old) }
     ensures { out.new ≡ put out.old at ((48 + n / 10) ∷ (48 + n % 10) ∷ []) }
 {
-    out[at + 1] = (48 + n % 10) as u8;
-    out[at] = (48 + n / 10) as u8;
+    out[at + 1] = b'0' + (n % 10) as u8;
+    out[at] = b'0' + (n / 10) as u8;
 }
 
 // How many digits n has.
 fn digit_count(n: u64) -> usize
     ensures { (result ≡ length (decimal n)) × (result ≤ line_digits) }
 {
-    let mut left = n;
-    let mut count: usize = 1;
-    while 10000 <= left {
-        left /= 10000;
-        count += 4;
+    match n.checked_ilog10() {
+        Some(below) => below as usize + 1,
+        None => 1,
     }
-    if left < 10 {
-        return count;
-    }
-    if left < 100 {
-        return count + 1;
-    }
-    if left < 1000 {
-        return count + 2;
-    }
-    count + 3
 }

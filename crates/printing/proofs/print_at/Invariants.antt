@@ -1,19 +1,14 @@
 use mathlib.Core.Path.{◌≡◌}
-use Prim.Native.Nat.{◌+◌, ◌*◌, ◌-◌, ◌≤◌}
-use lib.ListN.{length, take}
+use Prim.Native.Nat.{◌+◌, ◌*◌, ◌≤◌}
+use lib.ListN.{length, take, drop}
 use Rattle.lines.specs.Printing.{with_commas}
-use Rattle.printing.specs.Lines.{line_numbers, line_digits, room}
-use Rattle.printing.proofs.Commas.{from}
+use Rattle.printing.specs.Lines.{line_digits, room}
 use Rattle.buffer.proofs.Pieces.{Left}
 use Rattle.printing.proofs.print_at.Given as goal
 
-abbrev pub invariant-loop-i : goal.invariant-loop-i
-invariant-loop-i l =
-    (l.i ≤ l.count)
-    × (l.end ≤ l.at + 1 + (1 + line_digits) * l.i)
+abbrev pub invariant-loop-n : goal.invariant-loop-n
+invariant-loop-n l =
+    (l.end ≤ l.at + 1 + (1 + line_digits) * l.n-index)
     × (l.at + room ≤ length l.initial.out)
     × (length l.out ≡ length l.initial.out)
-    × Left (with_commas (take line_numbers l.numbers)) l.initial.out (l.at + 1) (with_commas (from l.numbers line_numbers l.i)) l.out l.end
-
-abbrev pub decreases-loop-i : goal.decreases-loop-i
-decreases-loop-i l = l.count - l.i
+    × Left (with_commas (take l.count l.numbers)) l.initial.out (l.at + 1) (with_commas (drop l.n-index (take l.count l.numbers))) l.out l.end

@@ -1,8 +1,7 @@
 -- `put_number`: with the digits of the rest put at `at`, the buffer is as with those of n. The measure is the rest.
-use mathlib.Core.Path.{◌≡◌, refl, ap, sym, ◌∙◌}
+use mathlib.Core.Path.{◌≡◌, ap, sym, ◌∙◌}
 use Prim.Native.Nat.{ℕ, ◌+◌, ◌-◌, ◌/◌, ◌%◌}
 use native.Mathlib.Omega.{arith}
-use borrow.Author.Rules.{rules}
 use lib.ListN.{length}
 use Rattle.lines.specs.Bytes.{Bytes}
 use Rattle.lines.specs.Printing.{decimal}
@@ -12,17 +11,6 @@ use Rattle.printing.specs.Lines.{line_digits}
 use Rattle.printing.proofs.Decimals.{pair, decimal_two, decimal_two_more, length_two_more}
 use Rattle.buffer.proofs.Puts.{put_one, put_before}
 use Rattle.printing.proofs.put_number.Goals as goal
-
-pub loop-rest-init : goal.loop-rest-init
-loop-rest-init c = (omega arith, omega arith, refl, refl)
-
-pub overflow_sub-next : goal.overflow_sub-next
-overflow_sub-next c = omega (arith, length_two_more c.loop-rest.rest (omega arith))
-
-pub put_pair-requires : goal.put_pair-requires
-put_pair-requires c =
-    let l = c.loop-rest in
-    (omega arith, omega (arith, length_two_more l.rest (omega arith)))
 
 pub loop-rest-preserved : goal.loop-rest-preserved
 loop-rest-preserved c =
@@ -41,10 +29,6 @@ loop-rest-preserved c =
           ∙ l.invariant.3,
     )
 
-pub bounds-out-at : goal.bounds-out-at
-unfolding line_digits
-bounds-out-at c = search rules
-
 pub returns-then-rest-lt10 : goal.returns-then-rest-lt10
 unfolding line_digits
 returns-then-rest-lt10 c =
@@ -58,10 +42,6 @@ returns-then-rest-lt10 c =
           ∙ ap (put l.out at) (sym (decimal_one l.rest (omega arith)))
           ∙ l.invariant.3;
     }
-
-pub put_pair-requires-2 : goal.put_pair-requires-2
-unfolding line_digits
-put_pair-requires-2 c = search rules
 
 pub returns : goal.returns
 returns c =
