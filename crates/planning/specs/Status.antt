@@ -1,7 +1,7 @@
 -- The program's exit status.
 use Rattle.std.specs.Prelude.{◌≡◌, ℕ}
 use Rattle.status.specs.Status.{status}
-use Rattle.planning.specs.declared.run.Outcome.{Outcome}
+use Rattle.status.specs.declared.Outcome.{Outcome}
 use Rattle.planning.specs.Runs.{Ran}
 
 -- the status of a run

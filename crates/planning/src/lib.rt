@@ -12,7 +12,5 @@ use std::rt::Clock;
 pub fn hindsight_run<R: Input + Print + Eprint + Clock>(rt: &R) -> u8
     ensures { Reported result }
 {
-    let outcome = run::run(rt);
-    let ended = outcome.ended;
-    status::status_of(ended)
+    status::status_of(run::run(rt).ended)
 }

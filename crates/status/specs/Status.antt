@@ -1,11 +1,8 @@
 -- The exit status of a run by how it ended.
-use Rattle.std.specs.Prelude.{ℕ}
-use Rattle.status.specs.declared.Ended.{Ended}
-use Rattle.status.specs.declared.Ended.TheVariants.{Whole, ReadFailed, WriteFailed, TooLong}
+use Rattle.std.specs.Prelude.{ℕ, Result, Ok, Err}
+use Rattle.status.specs.declared.Stop.{Stop}
 
 -- 0 where the end of input was read and the whole output was written, whatever lines were refused
-unfoldable pub status : Ended → ℕ
-status Whole = 0
-status ReadFailed = 1
-status WriteFailed = 1
-status TooLong = 1
+unfoldable pub status : Result Unit Stop → ℕ
+status (Ok _) = 0
+status (Err _) = 1

@@ -1,67 +1,37 @@
 // Why a read or a write failed, in the system's words.
+ghost use Rattle.std.specs.Prelude.{◌≡◌};
+
+use arrayvec::ArrayString;
 use std::fmt;
-use std::fmt::{Display, Formatter};
+use std::fmt::{Display, Formatter, Write};
 use std::io::Error;
 
-// The last failure; none before the first.
-#[derive(Clone, Copy)]
+// Bytes that are enough for the text of an error.
+const ROOM: usize = 320;
+
+// A read or a write that failed.
+#[derive(Clone, Copy, Debug)]
 pub struct Failure {
-    error: Option<Error>,
+    error: Error,
 }
 
-impl Failure {
-    pub const NONE: Failure = Failure { error: None };
+impl From<Error> for Failure {
+    ghost from_gives = { λ error failure. failure.error ≡ error };
 
-    pub fn new(error: Error) -> Failure {
-        Failure { error: Some(error) }
-    }
-}
-
-// Room for the words of an error.
-#[derive(Drop)]
-struct Words {
-    bytes: [u8; 256],
-    len: usize,
-}
-
-impl fmt::Write for Words {
-    fn write_str(&mut self, s: &str) -> fmt::Result {
-        for b in s.as_bytes() {
-            if self.len < 256 {
-                self.bytes[self.len] = *b;
-                self.len += 1;
-            }
-        }
-        Ok(())
+    fn from(error: Error) -> Failure {
+        Failure { error }
     }
 }
 
 // The words alone, as the C library gives them: std's text of an error ends with its number, as ` (os error 5)`.
 impl Display for Failure {
     fn fmt<W: fmt::Write>(&self, f: &mut Formatter<W>) -> fmt::Result {
-        match self.error {
-            None => f.write_str("the system gave no reason"),
-            Some(error) => {
-                let mut words = Formatter::new(Words {
-                    bytes: [0; 256],
-                    len: 0,
-                });
-                words.write(&error)?;
-                let said = words.into_inner();
-                f.write_str(before_number(&said))
-            }
+        let mut said = ArrayString::<ROOM>::new();
+        write!(said, "{}", self.error)?;
+        let text = said.as_str();
+        match text.split_once(" (os error ") {
+            Some((words, _)) => f.write_str(words),
+            None => f.write_str(text),
         }
-    }
-}
-
-// The text up to the number.
-fn before_number(said: &Words) -> &str {
-    let len = said.len.min(said.bytes.len());
-    match std::str::from_utf8(&said.bytes[..len]) {
-        Ok(text) => match text.split_once(" (os error ") {
-            Some((front, _)) => front,
-            None => text,
-        },
-        Err(_) => "",
     }
 }

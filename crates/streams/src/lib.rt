@@ -2,7 +2,7 @@
 // answered for.
 #![tactic(auto)]
 
-ghost use Rattle.std.specs.Prelude.{◌≤◌, length};
+ghost use Rattle.std.specs.Prelude.{◌≤◌, ◌<◌, length, IfOk, IfErr};
 ghost use Rattle.streams.specs.Got.{Within};
 
 pub mod failure;
@@ -10,18 +10,17 @@ pub mod failure;
 use failure::Failure;
 use std::io::{Error, ErrorKind, Read};
 use std::rt::Clock;
-use std::thread;
 use std::time::Duration;
+use std::{io, thread};
 
 // How often one call is tried at the most. With a rest of a millisecond before each new try that is thirty years.
 const TRIES: u64 = 1_000_000_000_000;
 
-// What a read gave: so many bytes at the start of the buffer, the end of input, or a failure, which the failure beside it names.
+// A write that failed: how many bytes were taken before it, and why.
 #[derive(Clone, Copy)]
-pub enum Got {
-    Bytes(usize),
-    End,
-    Failed,
+pub struct Unwritten {
+    pub taken: usize,
+    pub failure: Failure,
 }
 
 // A rest of a millisecond.
@@ -39,68 +38,66 @@ fn is_passing<R: Clock>(rt: &R, error: Error) -> bool {
     kind == ErrorKind::Interrupted
 }
 
-// Reads once.
-#[tactic(auto, unfolding(crate::specs::Got::Within))]
+// Reads once, or again where that is to be tried; how many bytes were read.
+fn try_read<R: Clock, I: Read>(rt: &R, input: &mut I, buf: &mut [u8]) -> io::Result<usize>
+    ensures { IfOk result (λ n. n ≤ length buf.old) }
+{
+    for _ in 1..TRIES {
+        match input.read(buf) {
+            Err(error) if is_passing(rt, error) => {}
+            answer => return answer,
+        }
+    }
+    input.read(buf)
+}
+
+// Writes once, or again where that is to be tried; how many bytes were taken.
+fn try_write<R: Print + Clock>(rt: &R, buf: &[u8]) -> io::Result<usize>
+    ensures { IfOk result (λ n. n ≤ length buf.now) }
+{
+    for _ in 1..TRIES {
+        match rt.write_some(buf) {
+            Err(error) if is_passing(rt, error) => {}
+            answer => return answer,
+        }
+    }
+    rt.write_some(buf)
+}
+
+// Reads once; how many bytes were read, or none at the end of input.
 pub fn read_some<R: Clock, I: Read>(
     rt: &R,
     input: &mut I,
     buf: &mut [u8],
-    failure: &mut Failure,
-) -> Got
+) -> Result<Option<usize>, Failure>
     ensures { Within result (length buf.old) }
 {
-    let mut tries = TRIES;
-    while 0 < tries {
-        match input.read(buf) {
-            Ok(n) => {
-                if 0 < n {
-                    return Got::Bytes(n);
-                }
-                return Got::End;
-            }
-            Err(error) => {
-                *failure = Failure::new(error);
-                if !is_passing(rt, error) {
-                    return Got::Failed;
-                }
-            }
-        }
-        tries -= 1;
+    match try_read(rt, input, buf)? {
+        0 => Ok(None),
+        n => Ok(Some(n)),
     }
-    Got::Failed
 }
 
-// Writes once; how many bytes were taken. Where a write fails, which the failure then names, that is none.
-fn write_some<R: Print + Clock>(rt: &R, buf: &[u8], failure: &mut Failure) -> usize
-    ensures { result ≤ length buf.now }
+// Writes bytes, one at least; how many were taken. Where none was, the write failed.
+fn write_some<R: Print + Clock>(rt: &R, buf: &[u8]) -> Result<usize, Failure>
+    ensures { IfOk result (λ n. (1 ≤ n) × (n ≤ length buf.now)) }
 {
-    let mut tries = TRIES;
-    while 0 < tries {
-        match rt.write_some(buf) {
-            Ok(n) => return n,
-            Err(error) => {
-                *failure = Failure::new(error);
-                if !is_passing(rt, error) {
-                    return 0;
-                }
-            }
-        }
-        tries -= 1;
+    match try_write(rt, buf)? {
+        0 => Err(Failure::from(Error::new(ErrorKind::WriteZero, "the system gave no reason"))),
+        n => Ok(n),
     }
-    0
 }
 
-// Writes until all bytes are taken, or a write fails; how many were taken.
-pub fn write_all<R: Print + Clock>(rt: &R, buf: &[u8], failure: &mut Failure) -> usize
-    ensures { result ≤ length buf.now }
+// Writes until all bytes are taken, or a write fails.
+pub fn write_all<R: Print + Clock>(rt: &R, buf: &[u8]) -> Result<(), Unwritten>
+    ensures { IfErr result (λ e. e.taken < length buf.now) }
 {
-    let mut done = 0;
-    while done < buf.len() {
-        let put = write_some(rt, &buf[done..], failure);
-        if put == 0 {
-            return done;
+    let mut taken = 0;
+    while taken < buf.len() {
+        match write_some(rt, &buf[taken..]) {
+            Ok(n) => taken += n,
+            Err(failure) => return Err(Unwritten { taken, failure }),
         }
-        done += put;
     }
-    done
+    Ok(())
 }

@@ -2,10 +2,10 @@
 use mathlib.Core.Path.{◌≡◌}
 use Prim.Native.Nat.{◌-◌, ◌≤◌}
 use lib.ListN.{length}
-use Rattle.planning.proofs.run.run.Given as goal
+use Rattle.planning.proofs.run.read_and_answer.Given as goal
 
 abbrev pub invariant-loop-n : goal.invariant-loop-n
-invariant-loop-n g l = (l.n ≤ 2665) × (length l.input ≡ 65536) × (length l.out ≡ 65536)
+invariant-loop-n g l = (l.n ≤ 2665) × (length l.input ≡ 65536)
 
 abbrev pub decreases-loop-n : goal.decreases-loop-n
 decreases-loop-n g l = 2665 - l.n
