@@ -4,7 +4,7 @@ use mathlib.Core.Bool.{Bool, true, false}
 use Prim.Native.Nat.{ℕ, zero, suc, ◌+◌, ◌-◌, ◌≤◌, ◌<◌}
 use native.Mathlib.Omega.{arith}
 use lib.Pow.{pow_mono}
-use Rattle.std.specs.Prelude.{Result, Ok, Err}
+use Rattle.std.specs.Prelude.{Ok, Err}
 use borrow.Author.Tests.{le-leb, lt-leb}
 use Rattle.board.specs.declared.Board.{Board}
 use Rattle.board.specs.declared.Slot.{Slot}
@@ -19,7 +19,8 @@ use Rattle.soundness.specs.Inner.Walk.{in_limits}
 use Rattle.limits.specs.Inner.Limits.{◌or_else◌, limits_number}
 use Rattle.admitting.specs.Inner.InLimits.{in_slot_before, admit_number_in_limits, admitted_in_limits, LetIn}
 use Rattle.admitting.specs.Inner.Answer.{admitted_answer}
-use Rattle.admitting.specs.Inner.Placed.{with_place}
+use Rattle.packing.specs.declared.Head.{Head}
+use Rattle.admitting.specs.Inner.Placed.{head_of, with_place}
 use Rattle.limits.proofs.Limits.{within, limits_passed}
 
 -- a number that is not 0 stands
@@ -87,11 +88,26 @@ module _ (b : Board) (t w g : ℕ) where
           free = f;
         }
 
--- the board's numbers, as the code has read them
-module _ (b : Board) (depth : ℕ) (slot : Slot) (count : ℕ) (d : depth ≡ b.depth) (s : slot ≡ b.slot) (n : count ≡ b.count) where
-  pub limits_read : (x y : Bool) → x ≡ in_limits depth slot.0 count → x ≡ y → in_limits b.depth (slot_of b) b.count ≡ y
-  limits_read x y e f = rw (← d, ← s, ← n) (sym e ∙ f)
+-- what is known where no number is given
+pub record Passed (b : Board) (t w g : ℕ) : Type 0 where
+  pub none : admit_number_in_limits b t w g ≡ 0
+  pub let_in : LetIn b w g
 
-  pub row_read : (highest taken row t w g : ℕ) → highest ≡ b.highest → in_limits b.depth (slot_of b) b.count ≡ true
-      → (depth ≤ deepest → row ≡ first_given (admit_rows slot.0 highest taken depth t w g)) → row ≡ rows b t w g taken
-  row_read highest taken row t w g h i r = rw (← h, ← d, ← s) (r (let l = within b i in omega arith))
+-- the head of the board, as the code has read it
+module _ (b : Board) (h : Head) (e : h ≡ head_of b) where
+  pub limits_read : (x y : Bool) → x ≡ in_limits h.depth h.slot.0 h.count → x ≡ y → in_limits b.depth (slot_of b) b.count ≡ y
+  limits_read x y i f = sym (i ∙ ap (λ (k : Head). in_limits k.depth k.slot.0 k.count) e) ∙ f
+
+  pub row_read : (t w g taken row : ℕ) → in_limits b.depth (slot_of b) b.count ≡ true
+      → (h.depth ≤ deepest → row ≡ first_given (admit_rows h.slot.0 h.highest taken h.depth t w g)) → row ≡ rows b t w g taken
+  row_read t w g taken row i r =
+      let shallow : h.depth ≤ deepest = let l = within b i in let d = ap (λ (k : Head). k.depth) e in omega arith in
+      r shallow ∙ ap (λ (k : Head). first_given (admit_rows k.slot.0 k.highest taken k.depth t w g)) e
+
+  pub passed : (t w g : ℕ) (x : Bool) → x ≡ in_limits h.depth h.slot.0 h.count → x ≡ true → (taken : ℕ) → taken ≡ in_slot_before b b.count
+      → (h.depth ≤ deepest → 0 ≡ first_given (admit_rows h.slot.0 h.highest taken h.depth t w g)) → h.count < places_held → Passed b t w g
+  passed t w g x i f taken k r l =
+      let inside = limits_read x true i f in
+      let given = row_read t w g taken 0 inside r in
+      let free : b.count < places_held = let n = ap (λ (k : Head). k.count) e in omega arith in
+      record { none = number_none b t w g inside taken 0 k given refl free; let_in = let_in b t w g inside taken 0 k given refl free }

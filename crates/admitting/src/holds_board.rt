@@ -3,29 +3,20 @@
 
 ghost use Rattle.std.specs.Prelude.{◌≡◌, ◌<◌};
 ghost use Rattle.board.specs.declared.Board.{Board};
-ghost use Rattle.board.specs.Held.{slot_number};
 ghost use Rattle.board.specs.Limits.{places_held};
 ghost use Rattle.packing.specs.Inner.Packed.{board_of};
-ghost use Rattle.admitting.specs.Inner.Placed.{Placeable, with_place, admitted_at};
+ghost use Rattle.admitting.specs.Inner.Placed.{head_of, admitted_at, Placeable, with_place};
 
 use board::{Board, Place, Slot};
-use packing::Packed;
+use packing::{Head, Packed};
 
 pub trait HoldsBoard {
     // The board that the value holds.
     ghost board: { Self → Board };
 
-    fn depth(&self) -> u8
-        ensures { result ≡ (board self.now).depth };
-
-    fn slot(&self) -> Slot
-        ensures { result ≡ (board self.now).slot };
-
-    fn highest(&self) -> u32
-        ensures { result ≡ (board self.now).highest };
-
-    fn count(&self) -> usize
-        ensures { result ≡ (board self.now).count };
+    // What the board holds beside its places.
+    fn head(&self) -> Head
+        ensures { result ≡ head_of (board self.now) };
 
     // The slot that the job in a place was admitted in.
     fn admitted_at(&self, at: usize) -> Slot
@@ -43,23 +34,13 @@ impl HoldsBoard for Board {
     ghost board = { λ b. b };
 
     #[inline]
-    fn depth(&self) -> u8 {
-        self.depth
-    }
-
-    #[inline]
-    fn slot(&self) -> Slot {
-        self.slot
-    }
-
-    #[inline]
-    fn highest(&self) -> u32 {
-        self.highest
-    }
-
-    #[inline]
-    fn count(&self) -> usize {
-        self.count
+    fn head(&self) -> Head {
+        Head {
+            depth: self.depth,
+            slot: self.slot,
+            highest: self.highest,
+            count: self.count,
+        }
     }
 
     #[inline]
@@ -79,23 +60,8 @@ impl HoldsBoard for Packed {
     ghost board = { board_of };
 
     #[inline]
-    fn depth(&self) -> u8 {
-        self.head.depth
-    }
-
-    #[inline]
-    fn slot(&self) -> Slot {
-        self.head.slot
-    }
-
-    #[inline]
-    fn highest(&self) -> u32 {
-        self.head.highest
-    }
-
-    #[inline]
-    fn count(&self) -> usize {
-        self.head.count
+    fn head(&self) -> Head {
+        self.head
     }
 
     #[inline]

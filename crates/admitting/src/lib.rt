@@ -19,14 +19,13 @@ fn in_slot<B: HoldsBoard>(b: &B) -> usize
     requires { (B.board b.now).count ≤ places_held }
     ensures { let board = B.board b.now in result ≡ in_slot_before board board.count }
 {
-    let slot = b.slot();
-    let count = b.count();
-    for at in (0..count).rev() {
-        if b.admitted_at(at).0 != slot.0 {
-            return count - 1 - at;
+    let head = b.head();
+    for at in (0..head.count).rev() {
+        if b.admitted_at(at).0 != head.slot.0 {
+            return head.count - 1 - at;
         }
     }
-    count
+    head.count
 }
 
 // Admits a job on a board, in whatever form it is held, of which only the limits are looked at: the job's last slot.
@@ -38,21 +37,27 @@ pub fn admit_on<B: HoldsBoard>(
 ) -> Result<Slot, Refusal>
     ensures { admitted_answer result (B.board b.new) ≡ admitted_in_limits (B.board b.old) ticket laxity.0 grade }
 {
-    let depth = b.depth();
-    let slot = b.slot();
-    let count = b.count();
-    if !soundness::in_limits(depth, slot, count) {
+    let head = b.head();
+    if !soundness::in_limits(head.depth, head.slot, head.count) {
         return Err(Refusal::NotSound);
     }
     let taken = in_slot(b);
-    first_row(slot, b.highest(), taken, depth, ticket, laxity, grade)?;
-    if Board::PLACES <= count {
+    first_row(
+        head.slot,
+        head.highest,
+        taken,
+        head.depth,
+        ticket,
+        laxity,
+        grade,
+    )?;
+    if Board::PLACES <= head.count {
         return Err(Refusal::NotSound);
     }
-    let last = Slot(slot.0 + laxity.0 - 1);
+    let last = Slot(head.slot.0 + laxity.0 - 1);
     b.put(Place {
         ticket,
-        admitted: slot,
+        admitted: head.slot,
         last,
         grade: grade as u8,
     });

@@ -6,4 +6,4 @@ use Rattle.admitting.proofs.in_slot.Given as goal
 abbrev pub invariant-loop-at : goal.invariant-loop-at
 invariant-loop-at g l =
     let board = g.B.HoldsBoard.board l.b in
-    in_slot_before board l.at + (l.count - l.at) ≡ in_slot_before board board.count
+    in_slot_before board l.at + (l.head.count - l.at) ≡ in_slot_before board board.count

@@ -1,10 +1,15 @@
--- A job put in the first free place of a board.
+-- What admitting reads of a board, and the job that it puts in the first free place.
 use Rattle.std.specs.Prelude.{ℕ, ◌+◌, ◌^◌, ◌≤◌, ◌<◌, get_or, set}
 use Rattle.board.specs.declared.Slot.{Slot}
 use Rattle.board.specs.declared.Place.{Place}
 use Rattle.board.specs.declared.Board.{Board}
 use Rattle.board.specs.Limits.{longest_laxity, places_held, last_slot, deepest}
 use Rattle.board.specs.Held.{blank}
+use Rattle.packing.specs.declared.Head.{Head}
+
+-- what a board holds beside its places
+abbrev pub head_of : Board → Head
+head_of b = record { depth = b.depth; slot = b.slot; highest = b.highest; count = b.count }
 
 -- the slot that the job in a place was admitted in
 abbrev pub admitted_at : Board → ℕ → Slot
