@@ -1,20 +1,26 @@
 -- What admitting within the limits answers, by the number of the first row that fails.
 use mathlib.Core.Path.{◌≡◌, refl, sym, ap, ◌∙◌}
-use mathlib.Core.Bool.{true, false}
-use Prim.Native.Nat.{ℕ, zero, suc, ◌≤◌, ◌<◌}
+use mathlib.Core.Bool.{Bool, true, false}
+use Prim.Native.Nat.{ℕ, zero, suc, ◌+◌, ◌-◌, ◌≤◌, ◌<◌}
 use native.Mathlib.Omega.{arith}
 use lib.Pow.{pow_mono}
+use Rattle.std.specs.Prelude.{Ok, Err}
 use borrow.Author.Tests.{le-leb, lt-leb}
 use Rattle.board.specs.declared.Board.{Board}
-use Rattle.board.specs.declared.Admitted.{Admitted}
-use Rattle.board.specs.Limits.{places_held}
+use Rattle.board.specs.declared.Slot.{Slot}
+use Rattle.board.specs.declared.refusal.Refusal.{Refusal}
+use Rattle.board.specs.Limits.{places_held, deepest}
 use Rattle.board.specs.Rows.{◌if◌, first_given, admit_rows}
 use Rattle.board.specs.Held.{slot_of, slot_number}
-use Rattle.board.specs.Admit.{admitted_if}
+use Rattle.board.specs.Admit.{last_of, with_job, admitted_if}
+use Rattle.board.specs.Refusals.{number_of}
 use Rattle.board.proofs.Calls.Rows.{admits}
 use Rattle.soundness.specs.Inner.Walk.{in_limits}
 use Rattle.limits.specs.Inner.Limits.{◌or_else◌, limits_number}
-use Rattle.admitting.specs.Inner.InLimits.{in_slot_before, admit_number_in_limits, LetIn}
+use Rattle.admitting.specs.Inner.InLimits.{in_slot_before, admit_number_in_limits, admitted_in_limits, LetIn}
+use Rattle.admitting.specs.Inner.Answer.{admitted_answer}
+use Rattle.packing.specs.declared.Head.{Head}
+use Rattle.admitting.specs.Inner.Placed.{head_of, with_place}
 use Rattle.limits.proofs.Limits.{within, limits_passed}
 
 -- a number that is not 0 stands
@@ -23,18 +29,30 @@ unfolding ◌or_else◌
 first_stands zero m h = absurd (h refl)
 first_stands (suc n) m h = refl
 
-pub answer_none : (b : Board) (t w g : ℕ) (x : Admitted) (n : ℕ) → n ≡ 0 → x ≡ admitted_if 0 b t w g → x ≡ admitted_if n b t w g
-answer_none b t w g x n e h = h ∙ ap (λ m. admitted_if m b t w g) (sym e)
+pub some_number : (r : Refusal) → number_of r ≡ 0 → ⊥
+some_number r e = grind arith
 
-pub answer_refused : (b : Board) (t w g : ℕ) (x : Admitted) (n : ℕ) → (n ≡ 0 → ⊥) → x ≡ record { refusal = n; last = slot_number 0; board = b }
-    → x ≡ admitted_if n b t w g
+answer_refused : (b : Board) (t w g n : ℕ) → (n ≡ 0 → ⊥) → record { refusal = n; last = slot_number 0; board = b } ≡ admitted_if n b t w g
 unfolding admitted_if
-answer_refused b t w g x zero k h = absurd (k refl)
-answer_refused b t w g x (suc n) k h = h
+answer_refused b t w g zero k = absurd (k refl)
+answer_refused b t w g (suc n) k = refl
+
+-- a refusal with the number that the board and the job have
+pub refused_by : (b : Board) (t w g : ℕ) (r : Refusal) → admit_number_in_limits b t w g ≡ number_of r
+    → admitted_answer (Err r) b ≡ admitted_in_limits b t w g
+unfolding admitted_in_limits
+refused_by b t w g r e = rw e (answer_refused b t w g (number_of r) (some_number r))
+
+-- no refusal, and the board with the job
+pub placed_by : (b after : Board) (t w g : ℕ) (slot : Slot) → admit_number_in_limits b t w g ≡ 0 → slot ≡ b.slot
+    → after ≡ with_place b (record { ticket = t; admitted = slot; last = slot_number (slot.0 + w - 1); grade = g })
+    → admitted_answer (Ok (slot_number (slot.0 + w - 1))) after ≡ admitted_in_limits b t w g
+unfolding admitted_in_limits admitted_if with_job last_of
+placed_by b after t w g slot n e p = rw (n, p, e) refl
 
 module _ (b : Board) (t w g : ℕ) where
   -- rows 3 to 7, as the code finds them
-  abbrev rows : ℕ → ℕ
+  abbrev pub rows : ℕ → ℕ
   rows n = first_given (admit_rows (slot_of b) b.highest n b.depth t w g)
 
   pub number_out : in_limits b.depth (slot_of b) b.count ≡ false → admit_number_in_limits b t w g ≡ 2
@@ -69,3 +87,27 @@ module _ (b : Board) (t w g : ℕ) where
           graded = omega (arith, a.graded, pow_mono l.shallow);
           free = f;
         }
+
+-- what is known where no number is given
+pub record Passed (b : Board) (t w g : ℕ) : Type 0 where
+  pub none : admit_number_in_limits b t w g ≡ 0
+  pub let_in : LetIn b w g
+
+-- the head of the board, as the code has read it
+module _ (b : Board) (h : Head) (e : h ≡ head_of b) where
+  pub limits_read : (x y : Bool) → x ≡ in_limits h.depth h.slot.0 h.count → x ≡ y → in_limits b.depth (slot_of b) b.count ≡ y
+  limits_read x y i f = sym (i ∙ ap (λ (k : Head). in_limits k.depth k.slot.0 k.count) e) ∙ f
+
+  pub row_read : (t w g taken row : ℕ) → in_limits b.depth (slot_of b) b.count ≡ true
+      → (h.depth ≤ deepest → row ≡ first_given (admit_rows h.slot.0 h.highest taken h.depth t w g)) → row ≡ rows b t w g taken
+  row_read t w g taken row i r =
+      let shallow : h.depth ≤ deepest = let l = within b i in let d = ap (λ (k : Head). k.depth) e in omega arith in
+      r shallow ∙ ap (λ (k : Head). first_given (admit_rows k.slot.0 k.highest taken k.depth t w g)) e
+
+  pub passed : (t w g : ℕ) (x : Bool) → x ≡ in_limits h.depth h.slot.0 h.count → x ≡ true → (taken : ℕ) → taken ≡ in_slot_before b b.count
+      → (h.depth ≤ deepest → 0 ≡ first_given (admit_rows h.slot.0 h.highest taken h.depth t w g)) → h.count < places_held → Passed b t w g
+  passed t w g x i f taken k r l =
+      let inside = limits_read x true i f in
+      let given = row_read t w g taken 0 inside r in
+      let free : b.count < places_held = let n = ap (λ (k : Head). k.count) e in omega arith in
+      record { none = number_none b t w g inside taken 0 k given refl free; let_in = let_in b t w g inside taken 0 k given refl free }

@@ -1,3 +1,4 @@
 pub mod ByNumber
 pub mod InSlot
 pub mod OnSound
+pub mod InArrays

@@ -1,1 +1,3 @@
 pub mod InLimits
+pub mod Answer
+pub mod Placed

@@ -1,87 +1,105 @@
 // Admitting a job: 01's rows 2 to 7 in order, then the job in the first free place.
 #![tactic(auto)]
 
-ghost use Rattle.std.specs.Prelude.{◌≡◌, ◌≤◌};
+ghost use Rattle.std.specs.Prelude.{◌≡◌, ◌≤◌, Err};
 ghost use Rattle.board.specs.Limits.{places_held};
-ghost use Rattle.board.specs.Held.{slot_number};
-ghost use Rattle.board.specs.Admit.{admitted_if, admitted};
-ghost use Rattle.admitting.specs.Inner.InLimits.{in_slot_before, LetIn, admitted_in_limits};
+ghost use Rattle.board.specs.Admit.{admitted};
+ghost use Rattle.admitting.specs.Inner.InLimits.{in_slot_before, admitted_in_limits};
+ghost use Rattle.admitting.specs.Inner.Answer.{admitted_answer};
 
-use board::{Admitted, Board, Laxity, Place, Slot};
+use board::{Admitted, Board, Laxity, Place, Refusal, Slot};
 use rows::first_row;
 
+pub mod holds_board;
+
+pub use holds_board::HoldsBoard;
+
 // How many jobs at the board's end were admitted in its slot. On a sound board no others were: admitted slots never fall along it.
-fn in_slot(b: Board) -> usize
-    requires { b.count ≤ places_held }
-    ensures { result ≡ in_slot_before b b.count }
+fn in_slot<B: HoldsBoard>(b: &B) -> usize
+    requires { (B.board b.now).count ≤ places_held }
+    ensures { let board = B.board b.now in result ≡ in_slot_before board board.count }
 {
-    let mut at = b.count;
-    while 0 < at {
-        if b.places[at - 1].admitted.0 != b.slot.0 {
-            return b.count - at;
+    let head = b.head();
+    for at in (0..head.count).rev() {
+        if b.admitted_at(at).0 != head.slot.0 {
+            return head.count - 1 - at;
         }
-        at -= 1;
     }
-    b.count
+    head.count
 }
 
-// What admitting answers where no row fails: the job's last slot, and the board with the job in the first free place.
-fn place_job(mut b: Board, ticket: u32, laxity: Laxity, grade: u32) -> Admitted
-    requires { LetIn b laxity.0 grade }
-    ensures { result ≡ admitted_if 0 b ticket laxity.0 grade }
+// Admits a job on a board, in whatever form it is held, of which only the limits are looked at: the job's last slot.
+pub fn admit_on<B: HoldsBoard>(
+    b: &mut B,
+    ticket: u32,
+    laxity: Laxity,
+    grade: u32,
+) -> Result<Slot, Refusal>
+    ensures { admitted_answer result (B.board b.new) ≡ admitted_in_limits (B.board b.old) ticket laxity.0 grade }
 {
-    let last = Slot(b.slot.0 + laxity.0 - 1);
-    let at = b.count;
-    b.places[at] = Place {
+    let head = b.head();
+    if !soundness::in_limits(head.depth, head.slot, head.count) {
+        return Err(Refusal::NotSound);
+    }
+    let taken = in_slot(b);
+    first_row(
+        head.slot,
+        head.highest,
+        taken,
+        head.depth,
         ticket,
-        admitted: b.slot,
+        laxity,
+        grade,
+    )?;
+    if Board::PLACES <= head.count {
+        return Err(Refusal::NotSound);
+    }
+    let last = Slot(head.slot.0 + laxity.0 - 1);
+    b.put(Place {
+        ticket,
+        admitted: head.slot,
         last,
         grade: grade as u8,
-    };
-    b.count += 1;
-    b.highest = ticket;
-    Admitted {
-        refusal: 0,
-        last,
-        board: b,
-    }
-}
-
-// What a refused admitting answers: the board as it was.
-fn refused(refusal: u8, b: Board) -> Admitted
-    ensures { result ≡ record { refusal = refusal; last = slot_number 0; board = b } }
-{
-    Admitted {
-        refusal,
-        last: Slot(0),
-        board: b,
-    }
+    });
+    Ok(last)
 }
 
 // Admits a job on a board of which only the limits are looked at. On a sound board that is 01's admitting.
-pub fn admit_in_limits(b: Board, ticket: u32, laxity: Laxity, grade: u32) -> Admitted
-    ensures { result ≡ admitted_in_limits b ticket laxity.0 grade }
+pub fn admit_in_limits(
+    b: &mut Board,
+    ticket: u32,
+    laxity: Laxity,
+    grade: u32,
+) -> Result<Slot, Refusal>
+    ensures { admitted_answer result b.new ≡ admitted_in_limits b.old ticket laxity.0 grade }
 {
-    if !soundness::in_limits(b.depth, b.slot, b.count) {
-        return refused(2, b);
+    admit_on(b, ticket, laxity, grade)
+}
+
+// What a refused admitting answers: the board as it was.
+fn refused(refusal: Refusal, board: Board) -> Admitted
+    ensures { result ≡ admitted_answer (Err refusal) board }
+{
+    Admitted {
+        refusal: refusal.number(),
+        last: Slot(0),
+        board,
     }
-    let taken = in_slot(b);
-    let row = first_row(b.slot, b.highest, taken, b.depth, ticket, laxity, grade);
-    if row != 0 {
-        return refused(row, b);
-    }
-    if Board::PLACES <= b.count {
-        return refused(2, b);
-    }
-    place_job(b, ticket, laxity, grade)
 }
 
 // Admits a job: 01's rows 2 to 7 in order, then the job in the first free place.
-pub fn admit(b: Board, ticket: u32, laxity: Laxity, grade: u32) -> Admitted
+pub fn admit(mut b: Board, ticket: u32, laxity: Laxity, grade: u32) -> Admitted
     ensures { result ≡ admitted b ticket laxity.0 grade }
 {
-    if soundness::is_sound(b) {
-        return admit_in_limits(b, ticket, laxity, grade);
+    if !soundness::is_sound(b) {
+        return refused(Refusal::NotSound, b);
     }
-    refused(2, b)
+    match admit_in_limits(&mut b, ticket, laxity, grade) {
+        Ok(last) => Admitted {
+            refusal: 0,
+            last,
+            board: b,
+        },
+        Err(refusal) => refused(refusal, b),
+    }
 }

@@ -3,12 +3,17 @@ use mathlib.Core.Path.{sym, ◌∙◌}
 use Rattle.admitting.proofs.OnSound.{admitting_on_sound, admitting_unsound}
 use Rattle.admitting.proofs.admit.Goals as goal
 
-pub returns-then-is_sound : goal.returns-then-is_sound
-returns-then-is_sound c =
+pub returns-then-not-is_sound : goal.returns-then-not-is_sound
+returns-then-not-is_sound c =
     let a = c.args in
-    c.admit_in_limits.ensures ∙ admitting_on_sound a.b a.ticket a.laxity.0 a.grade (sym c.is_sound.ensures ∙ c.if-is_sound.true)
+    admitting_unsound a.b a.ticket a.laxity.0 a.grade c.refused.result (sym c.is_sound.ensures ∙ c.if-not-is_sound.true) c.refused.ensures
 
-pub returns : goal.returns
-returns c =
+pub returns-in-Ok : goal.returns-in-Ok
+returns-in-Ok c =
     let a = c.args in
-    admitting_unsound a.b a.ticket a.laxity.0 a.grade c.refused.result (sym c.is_sound.ensures ∙ c.if-is_sound.false) c.refused.ensures
+    c.in-Ok.ensures ∙ admitting_on_sound a.b a.ticket a.laxity.0 a.grade (sym c.is_sound.ensures ∙ c.if-not-is_sound.false)
+
+pub returns-in-Err : goal.returns-in-Err
+returns-in-Err c =
+    let a = c.args in
+    c.refused-in-Err.ensures ∙ c.in-Err.ensures ∙ admitting_on_sound a.b a.ticket a.laxity.0 a.grade (sym c.is_sound.ensures ∙ c.if-not-is_sound.false)
