@@ -24,32 +24,32 @@ module _ (K T : List ℕ) (key : ℕ) where
     later : {r : ℕ} → PlaceWith n r → PlaceWith (n + 1) r
     later (j, h, p, q) = (j, omega (arith, h), p, q)
 
-    -- another key
-    pub lowest_past : ¬ (get_or K n 0 ≡ key) → LowestTo (n + 1) (min r (2 ^ 32 - 1))
-    lowest_past o =
-        let m : min r (2 ^ 32 - 1) ≡ r = omega (arith, L.fits) in
-        rw m (record {
-          least = below_more _ _ L.least (λ k. absurd (o k));
+    -- it stays the lowest: the key is another one, or the ticket is not lower
+    lowest_same : (get_or K n 0 ≡ key → r ≤ get_or T n 0) → LowestTo (n + 1) r
+    lowest_same o =
+        record {
+          least = below_more _ _ L.least o;
           found = ⊎_elim (λ m. inl m) (λ p. inr (later p)) L.found;
           small = below_more _ _ L.small fits;
           fits = L.fits;
-        })
+        }
 
-    -- the key
-    pub lowest_here : get_or K n 0 ≡ key → LowestTo (n + 1) (min r (get_or T n 0))
-    lowest_here here = go (cmp r (get_or T n 0))
+    -- a place with another key
+    pub lowest_past : (s : ℕ) → ¬ (get_or K n 0 ≡ key) → s ≡ min r (2 ^ 32 - 1) → LowestTo (n + 1) s
+    lowest_past s o e =
+        let m : s ≡ r = omega (arith, L.fits) in
+        rw m (lowest_same (λ k. absurd (o k)))
+
+    -- a place with the key
+    pub lowest_here : (s : ℕ) → get_or K n 0 ≡ key → s ≡ min r (get_or T n 0) → LowestTo (n + 1) s
+    lowest_here s here e = go (cmp r (get_or T n 0))
       where
-        go : (r ≤ get_or T n 0) ⊎ (get_or T n 0 < r) → LowestTo (n + 1) (min r (get_or T n 0))
+        go : (r ≤ get_or T n 0) ⊎ (get_or T n 0 < r) → LowestTo (n + 1) s
         go (inl h) =
-            let m : min r (get_or T n 0) ≡ r = omega arith in
-            rw m (record {
-              least = below_more _ _ L.least (λ k. h);
-              found = ⊎_elim (λ m. inl m) (λ p. inr (later p)) L.found;
-              small = below_more _ _ L.small fits;
-              fits = L.fits;
-            })
+            let m : s ≡ r = omega arith in
+            rw m (lowest_same (λ k. h))
         go (inr h) =
-            let m : min r (get_or T n 0) ≡ get_or T n 0 = omega arith in
+            let m : s ≡ get_or T n 0 = omega arith in
             rw m (record {
               least = below_more _ _ (λ i l k. omega (arith, h, L.least i l k)) (λ k. omega arith);
               found = inr (n, omega arith, here, refl);

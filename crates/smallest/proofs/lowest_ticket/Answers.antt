@@ -14,8 +14,7 @@ loop-i-init c = lowest_none _ _ _
 pub loop-i-preserved : goal.loop-i-preserved
 loop-i-preserved c =
     let m = c.loop-i.invariant in
-    rw c.min-lowest.ensures
-    (elim c.if-k-key.branch [ then-k-key w ↦ rw w.other-is (lowest_here _ _ _ m (omega arith) w.if-k-key.true) | else-k-key w ↦ rw w.other-is (lowest_past _ _ _ m (omega arith) w.if-k-key.false) ])
+    elim c.if-k-key.branch [ then-k-key w ↦ lowest_here _ _ _ m (omega arith) _ w.if-k-key.true (omega arith) | else-k-key w ↦ lowest_past _ _ _ m (omega arith) _ w.if-k-key.false (omega arith) ]
 
 pub returns : goal.returns
 unfolding in_use places_held
