@@ -13,7 +13,7 @@ use Rattle.rule.proofs.Tight.Laxity.{tight_laxity_is}
 use Rattle.rule.proofs.NoRegret.ByBit.{starting_none}
 use Rattle.lists.specs.Select.{select}
 use Rattle.lists.specs.Least.{least}
-use Rattle.std.specs.Prelude.{Option, None}
+use Rattle.std.specs.Prelude.{Option, is_some, true, false}
 use Rattle.smallest.specs.declared.Best.{Best}
 use Rattle.search.specs.Inner.Counts.{CountsOf}
 use Rattle.search.specs.Inner.Start.{first_bits}
@@ -33,15 +33,15 @@ unfolding best_of smallest_excess
 smallest_of_best now [] = refl
 smallest_of_best now (r ∷ A) = refl
 
-none_of_best : (now : ℕ) (A : List Job) → best_of now A ≡ None → A ≡ []
+none_of_best : (now : ℕ) (A : List Job) → is_some (best_of now A) ≡ false → A ≡ []
 unfolding best_of
 none_of_best now [] e = refl
 none_of_best now (r ∷ A) e = cc
 
-some_of_best : (now : ℕ) (A : List Job) → ¬ (best_of now A ≡ None) → (r : Job) × Memᴰ r A
+some_of_best : (now : ℕ) (A : List Job) → is_some (best_of now A) ≡ true → (r : Job) × Memᴰ r A
 unfolding best_of
-some_of_best now [] n = absurd (n refl)
-some_of_best now (r ∷ A) n = (r, Memᴰ.head refl)
+some_of_best now [] e = cc
+some_of_best now (r ∷ A) e = (r, Memᴰ.head refl)
 
 module _ (now d : ℕ) (A : List Job) (t : List ℕ) (C : CountsOf now d A t) (best : Option Best) (T : TightOf t 0 d best) where
   is_best : best ≡ best_of now A
@@ -52,8 +52,8 @@ module _ (now d : ℕ) (A : List Job) (t : List ℕ) (C : CountsOf now d A t) (b
   shortfall_found = ap (λ x. below_zero (smallest_in x)) is_best ∙ ap below_zero (smallest_of_best now A)
 
   -- no laxity, no jobs
-  pub no_job : best ≡ None → A ≡ []
-  no_job z = none_of_best now A (sym is_best ∙ z)
+  pub no_job : is_some best ≡ false → A ≡ []
+  no_job z = none_of_best now A (sym (ap is_some is_best) ∙ z)
 
-  pub some_job : ¬ (best ≡ None) → (r : Job) × Memᴰ r A
-  some_job n = some_of_best now A (λ e. n (is_best ∙ e))
+  pub some_job : is_some best ≡ true → (r : Job) × Memᴰ r A
+  some_job n = some_of_best now A (sym (ap is_some is_best) ∙ n)

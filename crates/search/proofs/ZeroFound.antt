@@ -77,4 +77,4 @@ module _ (t : List ℕ) (start left : ℕ) where
     pub zero_ended : {n : ℕ} {best : Option Best} {within zeros : ℕ} → n ≡ longest_laxity → ZeroTo n best within zeros → ZeroNext t start left false
     zero_ended {n} {best} e Z =
         let L = subst (λ k. BestTo here k best) e Z.tightest in
-        zero_of t start left some best (tight_of t start left best L) (best_small here L) false (sym (le-ltb 0 (sum zero best.laxity.0) (omega (arith, Z.none))))
+        zero_of t start left some best (tight_of t start left best L) (best_small here L) false (sym (le-ltb 0 (sum zero (best_laxity best)) (omega (arith, Z.none))))

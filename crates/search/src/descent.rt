@@ -9,6 +9,7 @@ use counts::{CELLS, LAXITIES};
 use smallest::Best;
 
 // Whether the laxity k + 1 is the best so far, and some of the jobs within it have 0 for their next bit.
+#[tactic(auto, unfolding(board::specs::Limits::longest_laxity))]
 fn zero_within(best: Option<Best>, k: usize, zeros: u32) -> bool
     requires { k < longest_laxity }
     ensures { result ≡ (eqb (best_laxity best) (k + 1) && ltb 0 zeros) }
@@ -21,6 +22,7 @@ fn zero_within(best: Option<Best>, k: usize, zeros: u32) -> bool
 
 // Whether a job of the tight set of the jobs whose grade starts so has 0 for its next bit. The tight laxity is the best so far or a greater one, so the
 // answer is known as soon as a laxity is the best and a job within it has that bit.
+#[tactic(auto, unfolding(board::specs::Limits::longest_laxity, board::specs::Limits::deepest))]
 fn zero_next(counts: &[u16; CELLS], start: u8, left: u8) -> bool
     requires { Start deepest start left × (1 ≤ left) }
     ensures { ZeroNext counts.now start left result }
@@ -43,6 +45,7 @@ fn zero_next(counts: &[u16; CELLS], start: u8, left: u8) -> bool
 }
 
 // The start with its next bit: 0 where a job of the tight set has it, otherwise 1.
+#[tactic(auto, unfolding(board::specs::Limits::longest_laxity, board::specs::Limits::deepest))]
 fn next_start(counts: &[u16; CELLS], start: u8, left: u8) -> u8
     requires { Start deepest start left × (1 ≤ left) }
     ensures next_bit { NextStart counts.now start left result }

@@ -7,6 +7,7 @@ use counts::{CELLS, LAXITIES};
 
 // The least laxity that one job more can have and be baked with all the others, if there is one. A laxity that as many jobs are within is full, and one that
 // more are within is overfull: it is the one after the last full one, if that is not the longest and none is overfull.
+#[tactic(auto, unfolding(board::specs::Limits::longest_laxity, board::specs::Limits::deepest))]
 pub(crate) fn after_full(counts: &[u16; CELLS]) -> Option<Laxity>
     ensures { PromiseFor counts.now (laxity_in result) }
 {

@@ -9,6 +9,7 @@ use board::Laxity;
 use counts::{CELLS, LAXITIES};
 
 // The least laxity that a job of this grade has, if there is one.
+#[tactic(auto, unfolding(board::specs::Limits::longest_laxity, board::specs::Limits::deepest))]
 pub(crate) fn least_laxity(counts: &[u16; CELLS], grade: u8) -> Option<Laxity>
     requires { Start deepest grade 0 }
     ensures { LeastOf counts.now grade (laxity_in result) }

@@ -10,6 +10,7 @@ use smallest::Best;
 
 // The best once the laxity k + 1 is looked at, which `here` jobs have; `before` jobs have a lesser one. The excess of a laxity is the laxity less the number
 // of jobs with that laxity or less. It may be below zero.
+#[tactic(auto, unfolding(board::specs::Limits::longest_laxity))]
 pub(crate) fn better(best: Option<Best>, before: u32, here: u32, k: usize) -> Option<Best>
     requires { (k < longest_laxity) × (before + here < 2 ^ 31) }
     ensures { result ≡ best_with best before here k }
@@ -26,6 +27,7 @@ pub(crate) fn better(best: Option<Best>, before: u32, here: u32, k: usize) -> Op
 }
 
 // The tight laxity of all jobs, and its excess: one column of counts after the other, each as wide as the greatest depth has grades.
+#[tactic(auto, unfolding(board::specs::Limits::longest_laxity, board::specs::Limits::deepest))]
 pub(crate) fn tight(counts: &[u16; CELLS]) -> Option<Best>
     ensures { TightOf counts.now 0 deepest result }
 {
