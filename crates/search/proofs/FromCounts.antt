@@ -13,18 +13,19 @@ use Rattle.rule.specs.Descent.{next_bit, descend}
 use Rattle.rule.proofs.NoRegret.Within.{starting_mem}
 use Rattle.rule.proofs.Tight.Excess.{up_to}
 use Rattle.board.specs.Limits.{longest_laxity}
+use Rattle.std.specs.Prelude.{Option}
 use Rattle.smallest.specs.declared.Best.{Best}
 use Rattle.search.specs.Inner.Counts.{CountsOf, sum, column}
 use Rattle.search.specs.Inner.Start.{Start, first_bits}
-use Rattle.search.specs.Inner.Answers.{TightOf, LeastOf, ZeroNext, NextStart, DescentOf}
+use Rattle.search.specs.Inner.Answers.{TightOf, best_laxity, LeastOf, ZeroNext, NextStart, DescentOf}
 use Rattle.search.proofs.Sums.{column_counts}
 use Rattle.search.proofs.BestLaxity.{BestTo}
-use Rattle.search.proofs.TightFound.{within, tight_found, least_found, least_none}
+use Rattle.search.proofs.TightFound.{within, laxity_of_best, tight_found, least_found, least_none}
 use Rattle.search.proofs.Start.{next_zero, next_one, zero_fits}
 use Rattle.search.proofs.NextBit.{zero_next, one_fewer, none_left}
 
 module _ (t : List ℕ) (start left : ℕ) where
-  pub tight_of : (best : Best) → BestTo (column t start left) longest_laxity best → TightOf t start left best
+  pub tight_of : (best : Option Best) → BestTo (column t start left) longest_laxity best → TightOf t start left best
   tight_of best B now d A fits C =
       let u = first_bits d start left in
       tight_found now (starting d u A) (λ r m. C.in_date r (starting_mem d u A m).0) (λ r m. C.short r (starting_mem d u A m).0) (column t start left)
@@ -53,14 +54,14 @@ module _ (t : List ℕ) (grade : ℕ) where
       (column_counts now d A t C grade 0 fits) z
 
 module _ (t : List ℕ) (start left : ℕ) (some : 1 ≤ left) where
-  pub zero_of : (best : Best) → TightOf t start left best → best.laxity.0 ≤ longest_laxity → (r : Bool)
-      → r ≡ ltb 0 (sum (column t (start * 2) (left - 1)) best.laxity.0) → ZeroNext t start left r
+  pub zero_of : (best : Option Best) → TightOf t start left best → best_laxity best ≤ longest_laxity → (r : Bool)
+      → r ≡ ltb 0 (sum (column t (start * 2) (left - 1)) (best_laxity best)) → ZeroNext t start left r
   zero_of best T h r e now d A fits C =
       let u = first_bits d start left in
-      let w = within_of t (start * 2) (left - 1) now d A (zero_fits d left start fits some) C best.laxity.0 h in
+      let w = within_of t (start * 2) (left - 1) now d A (zero_fits d left start fits some) C (best_laxity best) h in
       e
       ∙ ap (ltb 0) w
-      ∙ ap₂ (λ v l. ltb 0 (how_many (λ q. leb (laxity now q) l) (starting d v A))) (next_zero d left start fits some) (T now d A fits C).0
+      ∙ ap₂ (λ v l. ltb 0 (how_many (λ q. leb (laxity now q) l) (starting d v A))) (next_zero d left start fits some) (ap best_laxity (T now d A fits C) ∙ laxity_of_best now (starting d u A))
       ∙ zero_next now d A u
 
   pub next_is_zero : (r : Bool) → ZeroNext t start left r → r ≡ true → NextStart t start left (start * 2)

@@ -1,5 +1,7 @@
 pub mod Start
 pub mod Seeing
+pub mod Cells
+pub mod ExcessIs
 pub mod Sums
 pub mod BestLaxity
 pub mod TightFound

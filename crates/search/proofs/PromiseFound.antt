@@ -9,6 +9,7 @@ use Rattle.rule.proofs.Tight.Promise.{LastFull, last_full_none, last_full_here, 
 use Rattle.board.specs.Limits.{longest_laxity, deepest}
 use Rattle.search.specs.Inner.Counts.{CountsOf, sum, column}
 use Rattle.search.specs.Inner.Answers.{PromiseFor}
+use Rattle.search.proofs.Sums.{sum_more}
 use Rattle.search.proofs.FromCounts.{within_of}
 use Rattle.search.proofs.SmallestFound.{starting_all}
 
@@ -24,15 +25,18 @@ module _ (t : List ℕ) where
   counts_all : (now : ℕ) (A : List Job) → CountsOf now deepest A t → (l : ℕ) → l ≤ longest_laxity → within_all t l ≡ up_to now A l
   counts_all now A C l h = within_of t 0 deepest now deepest A (omega arith) C l h ∙ ap (λ B. up_to now B l) (starting_all deepest A)
 
+  -- one laxity more
+  pub within_more : {w : ℕ} (n l : ℕ) → w ≡ within_all t n → l ≡ column t 0 deepest n → w + l ≡ within_all t (n + 1)
+  within_more {w} n l h e = omega (arith, h, e, sum_more (column t 0 deepest) n)
+
   pub full_none : FullFor 0 0
   unfolding sum
   full_none now A C = last_full_none (sym (counts_all now A C 0 (omega arith)))
 
   -- the next laxity, which w jobs are within
   module _ {n m w : ℕ} (h : n < longest_laxity) (F : FullFor n m) (e : w ≡ within_all t (n + 1)) where
-    pub full_here : w ≡ n + 1 → FullFor (n + 1) w
-    full_here k now A C =
-        subst (LastFull now A (n + 1)) (sym k) (last_full_here (F now A C) (omega (arith, e, counts_all now A C (n + 1) (omega arith))))
+    pub full_here : w ≡ n + 1 → FullFor (n + 1) (n + 1)
+    full_here k now A C = last_full_here (F now A C) (omega (arith, e, k, counts_all now A C (n + 1) (omega arith)))
 
     pub full_before : w < n + 1 → FullFor (n + 1) m
     full_before k now A C = last_full_before (F now A C) (omega (arith, e, counts_all now A C (n + 1) (omega arith)))

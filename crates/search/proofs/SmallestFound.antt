@@ -13,11 +13,12 @@ use Rattle.rule.proofs.Tight.Laxity.{tight_laxity_is}
 use Rattle.rule.proofs.NoRegret.ByBit.{starting_none}
 use Rattle.lists.specs.Select.{select}
 use Rattle.lists.specs.Least.{least}
+use Rattle.std.specs.Prelude.{Option, is_some, true, false}
 use Rattle.smallest.specs.declared.Best.{Best}
 use Rattle.search.specs.Inner.Counts.{CountsOf}
 use Rattle.search.specs.Inner.Start.{first_bits}
 use Rattle.smallest.specs.Inner.Excess.{smallest_in}
-use Rattle.search.specs.Inner.Answers.{TightOf}
+use Rattle.search.specs.Inner.Answers.{TightOf, best_of}
 
 -- every grade starts with no bits
 pub starting_all : (d : ℕ) (A : List Job) → starting d (first_bits d 0 d) A ≡ A
@@ -26,42 +27,33 @@ starting_all d A =
     let n : d - d ≡ 0 = omega arith in
     ap (λ k. starting d (bits k 0) A) n ∙ starting_none d A
 
-module _ (now d : ℕ) (A : List Job) (t : List ℕ) (C : CountsOf now d A t) (best : Best) (T : TightOf t 0 d best) where
-  is_tight : best.laxity.0 ≡ tight_laxity now A
-  is_tight = (T now d A (omega arith) C).0 ∙ ap (tight_laxity now) (starting_all d A)
+-- the smallest excess that the best tells
+smallest_of_best : (now : ℕ) (A : List Job) → smallest_in (best_of now A) ≡ smallest_excess now A
+unfolding best_of smallest_excess
+smallest_of_best now [] = refl
+smallest_of_best now (r ∷ A) = refl
 
-  has_excess : best.excess ≡ excess now A (tight_laxity now A)
-  has_excess = (T now d A (omega arith) C).1 ∙ ap (λ B. excess now B (tight_laxity now B)) (starting_all d A)
+none_of_best : (now : ℕ) (A : List Job) → is_some (best_of now A) ≡ false → A ≡ []
+unfolding best_of
+none_of_best now [] e = refl
+none_of_best now (r ∷ A) e = cc
 
-  -- the tight laxity of some jobs is not 0
-  some_laxity : {r : Job} → Memᴰ r A → ¬ (best.laxity.0 ≡ 0)
-  some_laxity m z = let j = (tight_laxity_is now A m).present in omega (arith, is_tight, C.in_date j.0 j.1, j.2)
+some_of_best : (now : ℕ) (A : List Job) → is_some (best_of now A) ≡ true → (r : Job) × Memᴰ r A
+unfolding best_of
+some_of_best now [] e = cc
+some_of_best now (r ∷ A) e = (r, Memᴰ.head refl)
 
-  smallest_found : smallest_in best ≡ smallest_excess now A
-  unfolding smallest_in smallest_excess tight_laxity laxities select least
-  smallest_found = go A refl
-    where
-      go : (B : List Job) → A ≡ B → smallest_in best ≡ smallest_excess now B
-      go [] e = simp (eq-eqb best.laxity.0 0 (is_tight ∙ ap (tight_laxity now) e))
-      go (r ∷ B) e =
-          simp (ne_eqb best.laxity.0 0 (some_laxity (subst (Memᴰ r) (sym e) (Memᴰ.head refl)))) (ap some (has_excess ∙ ap (λ X. excess now X (tight_laxity now X)) e))
+module _ (now d : ℕ) (A : List Job) (t : List ℕ) (C : CountsOf now d A t) (best : Option Best) (T : TightOf t 0 d best) where
+  is_best : best ≡ best_of now A
+  is_best = T now d A (omega arith) C ∙ ap (best_of now) (starting_all d A)
 
   pub shortfall_found : below_zero (smallest_in best) ≡ shortfall now A
   unfolding shortfall
-  shortfall_found = ap below_zero smallest_found
+  shortfall_found = ap (λ x. below_zero (smallest_in x)) is_best ∙ ap below_zero (smallest_of_best now A)
 
   -- no laxity, no jobs
-  pub no_job : best.laxity.0 ≡ 0 → A ≡ []
-  no_job z = empty A refl
-    where
-      empty : (B : List Job) → A ≡ B → A ≡ []
-      empty [] e = e
-      empty (r ∷ B) e = absurd (some_laxity (subst (Memᴰ r) (sym e) (Memᴰ.head refl)) z)
+  pub no_job : is_some best ≡ false → A ≡ []
+  no_job z = none_of_best now A (sym (ap is_some is_best) ∙ z)
 
-  pub some_job : ¬ (best.laxity.0 ≡ 0) → (r : Job) × Memᴰ r A
-  unfolding tight_laxity laxities select least
-  some_job n = pick A refl
-    where
-      pick : (B : List Job) → A ≡ B → (r : Job) × Memᴰ r A
-      pick [] e = absurd (n (is_tight ∙ ap (tight_laxity now) e))
-      pick (r ∷ B) e = (r, subst (Memᴰ r) (sym e) (Memᴰ.head refl))
+  pub some_job : is_some best ≡ true → (r : Job) × Memᴰ r A
+  some_job n = some_of_best now A (sym (ap is_some is_best) ∙ n)

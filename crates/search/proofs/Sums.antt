@@ -51,7 +51,7 @@ sum_append f m zero = let e : m + 0 ≡ m = omega arith in omega (arith, ap (sum
 sum_append f m (suc n) = let e : m + suc n ≡ suc (m + n) = omega arith in omega (arith, ap (sum f) e, sum_append f m n)
 
 -- a column is that of the start with 0 behind it and that with 1
-pub column_halves : (t : List ℕ) (start left k : ℕ) → 1 ≤ left → column t start left k ≡ column t (start * 2) (left - 1) k + column t (start * 2 + 1) (left - 1) k
+column_halves : (t : List ℕ) (start left k : ℕ) → 1 ≤ left → column t start left k ≡ column t (start * 2) (left - 1) k + column t (start * 2 + 1) (left - 1) k
 unfolding column cell
 column_halves t start left k some =
     let w = 2 ^ (left - 1) in
@@ -66,6 +66,11 @@ column_halves t start left k some =
     twice : (n : ℕ) → 1 ≤ n → 2 ^ n ≡ 2 ^ (n - 1) + 2 ^ (n - 1)
     twice zero h = absurd (omega arith)
     twice (suc n) h = rw (sub-one, pow-succ' 2 n) (omega arith)
+
+-- so the two counts together are the column
+pub column_together : (t : List ℕ) (start left k : ℕ) → 1 ≤ left → {zero one : ℕ} → zero ≡ column t (start * 2) (left - 1) k
+    → one ≡ column t (start * 2 + 1) (left - 1) k → zero + one ≡ column t start left k
+column_together t start left k some z o = omega (arith, z, o, column_halves t start left k some)
 
 -- x is one of the n numbers from lo on
 abbrev in_range : (lo n x : ℕ) → Bool

@@ -20,10 +20,24 @@ use Rattle.rule.specs.Tight.{laxities, excess, tight_laxity}
 use Rattle.rule.proofs.Tight.Excess.{up_to}
 use Rattle.rule.proofs.Tight.Laxity.{tight_laxity_is, tight_laxity_only}
 use Rattle.board.specs.Limits.{longest_laxity}
+use Rattle.std.specs.Prelude.{Option, Some}
+use Rattle.board.specs.Promise.{laxity_number}
 use Rattle.smallest.specs.declared.Best.{Best}
+use Rattle.search.specs.Inner.Answers.{best_of, best_laxity}
 use Rattle.search.specs.Inner.Counts.{sum}
 use Rattle.search.proofs.Sums.{sum_cong, sum_part, within_counts}
 use Rattle.search.proofs.BestLaxity.{BestTo, none_yet, best_yet}
+
+-- the laxity of the best is the tight one
+pub laxity_of_best : (now : ℕ) (A : List Job) → best_laxity (best_of now A) ≡ tight_laxity now A
+unfolding best_of tight_laxity laxities select least
+laxity_of_best now [] = refl
+laxity_of_best now (r ∷ A) = refl
+
+best_some : (now : ℕ) (A : List Job) {r : Job} → Memᴰ r A → best_of now A ≡ Some (record { excess = excess now A (tight_laxity now A); laxity = laxity_number (tight_laxity now A) })
+unfolding best_of
+best_some now [] m = absurd (Memᴰ.not-nil m)
+best_some now (q ∷ A) m = refl
 
 -- c counts the jobs A, all of a laxity from 1 to the longest
 module _ (now : ℕ) (A : List Job) (in_date : (r : Job) → Memᴰ r A → 1 ≤ laxity now r) (short : (r : Job) → Memᴰ r A → laxity now r ≤ longest_laxity)
@@ -57,10 +71,13 @@ module _ (now : ℕ) (A : List Job) (in_date : (r : Job) → Memᴰ r A → 1 �
           let o = one_less r (subst (Memᴰ r) (sym e) (Memᴰ.head refl)) in
           absurd (omega (arith, z, sum_part c longest_laxity o.0 o.2, o.3))
 
-  pub tight_found : {best : Best} → BestTo c longest_laxity best → (best.laxity.0 ≡ tight_laxity now A) × (best.excess ≡ excess now A (tight_laxity now A))
-  unfolding tight_laxity laxities select least excess how_many
-  tight_found (none_yet s b) = rw (b, no_jobs s) (refl, refl)
-  tight_found (best_yet k h p b o f) = rw b (is, ap₂ (λ l w. pos l -ℤ pos w) is (within (k + 1) (omega arith) ∙ ap (up_to now A) is))
+  pub tight_found : {best : Option Best} → BestTo c longest_laxity best → best ≡ best_of now A
+  unfolding best_of excess
+  tight_found (none_yet s b) = rw (b, no_jobs s) refl
+  tight_found (best_yet k h p b o f) =
+      b
+      ∙ ap₂ (λ l w. Some (record { excess = pos l -ℤ pos w; laxity = laxity_number l })) is (within (k + 1) (omega arith) ∙ ap (up_to now A) is)
+      ∙ sym (best_some now A (a_job k h p).1)
     where
       is : k + 1 ≡ tight_laxity now A
       is =

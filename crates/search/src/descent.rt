@@ -2,38 +2,35 @@
 ghost use Rattle.std.specs.Prelude.{◌≡◌, ◌&&◌, ◌+◌, ◌-◌, ◌*◌, ◌^◌, ◌≤◌, ◌<◌, ltb, eqb};
 ghost use Rattle.board.specs.Limits.{deepest, longest_laxity};
 ghost use Rattle.search.specs.Inner.Start.{Start};
-ghost use Rattle.search.specs.Inner.Answers.{ZeroNext, NextStart, EndsAt};
+ghost use Rattle.search.specs.Inner.Answers.{ZeroNext, NextStart, EndsAt, best_laxity};
 
 use crate::{columns, tight};
-use board::Laxity;
 use counts::{CELLS, LAXITIES};
 use smallest::Best;
 
 // Whether the laxity k + 1 is the best so far, and some of the jobs within it have 0 for their next bit.
-fn zero_within(best: Best, k: usize, zeros: u32) -> bool
+#[tactic(auto, unfolding(board::specs::Limits::longest_laxity))]
+fn zero_within(best: Option<Best>, k: usize, zeros: u32) -> bool
     requires { k < longest_laxity }
-    ensures { result ≡ (eqb best.laxity.0 (k + 1) && ltb 0 zeros) }
+    ensures { result ≡ (eqb (best_laxity best) (k + 1) && ltb 0 zeros) }
 {
-    if best.laxity.0 == k as u32 + 1 {
-        return 0 < zeros;
+    match best {
+        Some(b) => b.laxity.0 == k as u32 + 1 && 0 < zeros,
+        None => false,
     }
-    false
 }
 
 // Whether a job of the tight set of the jobs whose grade starts so has 0 for its next bit. The tight laxity is the best so far or a greater one, so the
 // answer is known as soon as a laxity is the best and a job within it has that bit.
+#[tactic(auto, unfolding(board::specs::Limits::longest_laxity, board::specs::Limits::deepest))]
 fn zero_next(counts: &[u16; CELLS], start: u8, left: u8) -> bool
     requires { Start deepest start left × (1 ≤ left) }
     ensures { ZeroNext counts.now start left result }
 {
-    let mut best = Best {
-        excess: 0,
-        laxity: Laxity(0),
-    };
+    let mut best = None;
     let mut within: u32 = 0;
     let mut zeros: u32 = 0;
-    let mut k: usize = 0;
-    while k < LAXITIES {
+    for k in 0..LAXITIES {
         let zero = columns::column_of(counts, start * 2, left - 1, k);
         let one = columns::column_of(counts, start * 2 + 1, left - 1, k);
         let here = zero + one;
@@ -43,12 +40,12 @@ fn zero_next(counts: &[u16; CELLS], start: u8, left: u8) -> bool
             return true;
         }
         within += here;
-        k += 1;
     }
     false
 }
 
 // The start with its next bit: 0 where a job of the tight set has it, otherwise 1.
+#[tactic(auto, unfolding(board::specs::Limits::longest_laxity, board::specs::Limits::deepest))]
 fn next_start(counts: &[u16; CELLS], start: u8, left: u8) -> u8
     requires { Start deepest start left × (1 ≤ left) }
     ensures next_bit { NextStart counts.now start left result }

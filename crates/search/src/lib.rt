@@ -5,11 +5,21 @@
 // on. All of them are below (start + 1) * 2 ^ left, which is at most 2 ^ depth.
 #![tactic(auto)]
 
-ghost use Rattle.search.specs.Inner.Found.{BakedPacked, PromisedPacked};
+ghost use Rattle.std.specs.Prelude.{◌≡◌};
+ghost use Rattle.rule.specs.Promise.{least_promised};
+ghost use Rattle.board.specs.Limits.{longest_laxity, deepest};
+ghost use Rattle.board.specs.Held.{slot_of};
+ghost use Rattle.packing.specs.Inner.Packed.{board_of};
+ghost use Rattle.counts.specs.Seen.{seen};
+ghost use Rattle.counts.specs.Counts.{Counted};
+ghost use Rattle.search.specs.Inner.Answers.{TightOf, laxity_in};
+ghost use Rattle.search.specs.Inner.Found.{BakedSeen, chosen_of};
+ghost use Rattle.search.specs.Inner.Seen.{bakes_seen};
 
-use board::{Board, Laxity, Slot};
+use board::{Laxity, Slot};
 use counts::CELLS;
-use packing::Head;
+use packing::Packed;
+use smallest::Best;
 
 mod columns;
 mod descent;
@@ -17,50 +27,54 @@ mod room;
 mod soonest;
 mod tight;
 
-// The job that a slot bakes: its ticket, grade and last slot, all 0 where no job is seen; the shortfall of all jobs seen; and the counts by which both
-// were found.
+// A job that a slot bakes.
 #[derive(Clone, Copy)]
-pub struct Baked {
+pub struct Chosen {
     pub ticket: u32,
     pub grade: u8,
     pub last: Slot,
+}
+
+// What the search hands up: the job that a slot bakes, if one is seen; the shortfall of all jobs seen; and the counts by which both were found.
+#[derive(Clone, Copy)]
+pub struct Baked {
+    pub job: Option<Chosen>,
     pub shortfall: u32,
     pub counts: [u16; CELLS],
 }
 
-// The job that the slot bakes: of the grade that the search ends at, the soonest job. It is in the no-regret set, since the tight laxity of the grade's
-// jobs is one that some of them has, and no laxity is less than that of the soonest. The shortfall is by the smallest excess of all jobs.
-pub fn bake(head: Head, keys: &[u32; Board::PLACES], tickets: &[u32; Board::PLACES]) -> Baked
-    ensures { BakedPacked head keys.now tickets.now result }
+// The job that the slot bakes, by the counts of the jobs seen and the tight laxity of all of them: of the grade that the search ends at, the soonest job. It
+// is in the no-regret set, since the tight laxity of the grade's jobs is one that some of them has, and no laxity is less than that of the soonest.
+fn choose(b: &Packed, counts: &[u16; CELLS], all: Option<Best>) -> Option<Chosen>
+    requires counted { Counted (slot_of (board_of b.now)) (seen (board_of b.now)) counts.now }
+    requires tight { TightOf counts.now 0 deepest all }
+    ensures { result ≡ chosen_of (bakes_seen (board_of b.now)) }
 {
-    let counts = counts::counts_of(head, keys);
-    let all = tight::tight(&counts);
-    if all.laxity.0 == 0 {
-        return Baked {
-            ticket: 0,
-            grade: 0,
-            last: Slot(0),
-            shortfall: 0,
-            counts,
-        };
+    if all.is_none() {
+        return None;
     }
-    let grade = descent::descend(&counts, 0, head.depth);
-    let laxity = soonest::least_laxity(&counts, grade);
-    let last = Slot(head.slot.0 + laxity.0 - 1);
-    let ticket = smallest::lowest_ticket(head.count, keys, tickets, packing::key(last, grade));
-    Baked {
-        ticket,
-        grade,
-        last,
-        shortfall: smallest::shortfall_of(all),
-        counts,
-    }
+    let grade = descent::descend(counts, 0, b.head.depth);
+    let laxity = soonest::least_laxity(counts, grade)?;
+    let last = Slot(b.head.slot.0 + laxity.0 - 1);
+    let ticket = smallest::lowest_ticket(b, packing::key(last, grade));
+    Some(Chosen { ticket, grade, last })
 }
 
-// What can still be promised: the least laxity that one job more can have and be baked with all jobs seen, 0 for none.
-pub fn promise(head: Head, keys: &[u32; Board::PLACES]) -> Laxity
-    ensures { PromisedPacked head keys.now result.0 }
+// The job that the slot bakes of the jobs seen, with their shortfall, which is by the smallest excess of all jobs, and their counts.
+pub fn bake(b: &Packed) -> Baked
+    ensures { BakedSeen (board_of b.now) result }
 {
-    let counts = counts::counts_of(head, keys);
+    let counts = counts::counts_of(b);
+    let all = tight::tight(&counts);
+    let job = choose(b, &counts, all);
+    let shortfall = smallest::shortfall_of(all);
+    Baked { job, shortfall, counts }
+}
+
+// What can still be promised: the least laxity that one job more can have and be baked with all jobs seen, if there is one.
+pub fn promise(b: &Packed) -> Option<Laxity>
+    ensures { laxity_in result ≡ least_promised longest_laxity (slot_of (board_of b.now)) (seen (board_of b.now)) }
+{
+    let counts = counts::counts_of(b);
     room::after_full(&counts)
 }

@@ -1,30 +1,30 @@
 // Room for one job more, from counts.
-ghost use Rattle.search.specs.Inner.Answers.{PromiseFor};
+ghost use Rattle.search.specs.Inner.Answers.{PromiseFor, laxity_in};
 
 use crate::columns;
 use board::{Board, Laxity};
 use counts::{CELLS, LAXITIES};
 
-// The least laxity that one job more can have and be baked with all the others, 0 for none. A laxity that as many jobs are within is full, and one that
+// The least laxity that one job more can have and be baked with all the others, if there is one. A laxity that as many jobs are within is full, and one that
 // more are within is overfull: it is the one after the last full one, if that is not the longest and none is overfull.
-pub(crate) fn after_full(counts: &[u16; CELLS]) -> Laxity
-    ensures { PromiseFor counts.now result.0 }
+#[tactic(auto, unfolding(board::specs::Limits::longest_laxity, board::specs::Limits::deepest))]
+pub(crate) fn after_full(counts: &[u16; CELLS]) -> Option<Laxity>
+    ensures { PromiseFor counts.now (laxity_in result) }
 {
     let mut full: u32 = 0;
     let mut within: u32 = 0;
-    let mut k: usize = 0;
-    while k < LAXITIES {
+    for k in 0..LAXITIES {
         within += columns::column_of(counts, 0, Board::DEEPEST as u8, k);
-        k += 1;
-        if (k as u32) < within {
-            return Laxity(0);
+        let laxity = k as u32 + 1;
+        if laxity < within {
+            return None;
         }
-        if within == k as u32 {
-            full = within;
+        if within == laxity {
+            full = laxity;
         }
     }
     if full == Board::LONGEST_LAXITY {
-        return Laxity(0);
+        return None;
     }
-    Laxity(full + 1)
+    Some(Laxity(full + 1))
 }

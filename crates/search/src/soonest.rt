@@ -2,23 +2,22 @@
 // and grade have one key, of which `smallest::lowest_ticket` finds the lowest ticket.
 ghost use Rattle.board.specs.Limits.{deepest};
 ghost use Rattle.search.specs.Inner.Start.{Start};
-ghost use Rattle.search.specs.Inner.Answers.{LeastOf};
+ghost use Rattle.search.specs.Inner.Answers.{LeastOf, laxity_in};
 
 use crate::columns;
 use board::Laxity;
 use counts::{CELLS, LAXITIES};
 
-// The least laxity that a job of this grade has; 0 where there is none.
-pub(crate) fn least_laxity(counts: &[u16; CELLS], grade: u8) -> Laxity
+// The least laxity that a job of this grade has, if there is one.
+#[tactic(auto, unfolding(board::specs::Limits::longest_laxity, board::specs::Limits::deepest))]
+pub(crate) fn least_laxity(counts: &[u16; CELLS], grade: u8) -> Option<Laxity>
     requires { Start deepest grade 0 }
-    ensures { LeastOf counts.now grade result.0 }
+    ensures { LeastOf counts.now grade (laxity_in result) }
 {
-    let mut k: usize = 0;
-    while k < LAXITIES {
+    for k in 0..LAXITIES {
         if columns::column_of(counts, grade, 0, k) != 0 {
-            return Laxity(k as u32 + 1);
+            return Some(Laxity(k as u32 + 1));
         }
-        k += 1;
     }
-    Laxity(0)
+    None
 }

@@ -1,20 +1,27 @@
 -- The lowest ticket of the places passed.
-use mathlib.Core.Path.{◌≡◌, subst}
-use native.Mathlib.Omega.{arith}
+use Rattle.std.proofs.Common.{◌≡◌, take, subst, arith}
+use Rattle.std.proofs.lemmas.List.{length-take}
 use Rattle.board.specs.Limits.{places_held}
 use Rattle.packing.specs.Inner.Packed.{in_use}
 use Rattle.smallest.specs.Inner.Lowest.{LowestOf}
-use Rattle.smallest.proofs.Lowest.{lowest_more, lowest_all}
+use Rattle.smallest.proofs.Lowest.{LowestTo, lowest_none, lowest_past, lowest_here, lowest_all}
 use Rattle.smallest.proofs.lowest_ticket.Goals as goal
+use Rattle.smallest.proofs.lowest_ticket.Goals.{then-k-key, else-k-key}
+
+pub loop-i-init : goal.loop-i-init
+loop-i-init c = lowest_none _ _ _
 
 pub loop-i-preserved : goal.loop-i-preserved
 loop-i-preserved c =
-    let e = c.lower-lowest.ensures in
-    (omega arith, rw e.0 (lowest_more _ _ _ c.loop-i.invariant.1 e.1))
+    let m = c.loop-i.invariant in
+    elim c.if-k-key.branch [ then-k-key w ↦ lowest_here _ _ _ m (omega arith) _ w.if-k-key.true (omega arith) | else-k-key w ↦ lowest_past _ _ _ m (omega arith) _ w.if-k-key.false (omega arith) ]
 
 pub returns : goal.returns
 unfolding in_use places_held
 returns c =
     let a = c.args in
-    let e : c.loop-i.i ≡ in_use a.count = omega (arith, c.lesser-used.ensures) in
-    subst (λ n. LowestOf n a.keys.now a.tickets.now a.key c.loop-i.lowest) e (lowest_all _ _ _ c.loop-i.invariant.1)
+    let K = a.b.now.keys in
+    let T = a.b.now.tickets in
+    let e : c.loop-i.i ≡ c.min.result = omega (arith, length-take c.min.result K) in
+    let L = lowest_all _ K T a.key (subst (λ n. LowestTo (take c.min.result K) T a.key n c.loop-i.lowest) e c.loop-i.invariant) in
+    subst (λ n. LowestOf n K T a.key c.loop-i.lowest) c.min.ensures L

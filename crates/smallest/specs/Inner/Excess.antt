@@ -1,8 +1,15 @@
 -- The smallest excess of some jobs, as the search keeps it.
-use Rattle.std.specs.Prelude.{cond, eqb, ℤ}
-use Rattle.std.proofs.Math.Option.{Option, none, some}
+use Rattle.std.specs.Prelude.{Bool, true, Option, Some, None, ℤ}
+use Rattle.std.specs.Int.Signed.{lt_z}
+use Rattle.std.proofs.Math.Option.{Option as Optional, none, some}
 use Rattle.smallest.specs.declared.Best.{Best}
 
--- the smallest excess that it tells: laxity 0 says that there are no jobs, and so none
-unfoldable pub smallest_in : Best → Option ℤ
-smallest_in r = cond (eqb r.laxity.0 0) none (some r.excess)
+-- the smallest excess that it tells, if there are jobs
+abbrev pub smallest_in : Option Best → Optional ℤ
+smallest_in None = none
+smallest_in (Some b) = some b.excess
+
+-- whether an excess is the first, or smaller than the best so far
+abbrev pub improves : ℤ → Option Best → Bool
+improves x None = true
+improves x (Some b) = lt_z x b.excess

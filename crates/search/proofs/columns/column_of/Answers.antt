@@ -1,109 +1,55 @@
 -- The sum of the cells passed.
-use Prim.Native.Nat.{ℕ, ◌+◌, ◌-◌, ◌*◌, ◌^◌, ◌≤◌, ◌<◌}
-use mathlib.Core.Path.{◌≡◌, ap, ◌∙◌}
-use mathlib.Core.List.{List}
-use native.Mathlib.Omega.{arith}
-use lib.ListN.{get_or}
-use Rattle.board.specs.Limits.{longest_laxity, deepest}
-use Rattle.board.specs.Tally.{tally_grades, cell}
+use Rattle.std.proofs.Common.{◌≡◌, ◌^◌, refl, ap, ◌∙◌, arith, rules}
 use Rattle.search.specs.Inner.Counts.{sum, column}
-use Rattle.search.proofs.Start.{start_short}
+use Rattle.board.specs.Limits.{deepest}
 use Rattle.search.proofs.Sums.{sum_more}
+use Rattle.search.proofs.Cells.{cell_from, column_short, column_narrow, column_inside, cell_at, all_cells}
 use Rattle.search.proofs.columns.column_of.Goals as goal
 
--- the cells of the column, from its first on
-abbrev cell_from : List ℕ → (start left k : ℕ) → ℕ → ℕ
-cell_from t start left k i = get_or t (cell k (start * 2 ^ left) + i) 0
-
-pub width-n-requires : goal.width-n-requires
-unfolding deepest
-width-n-requires c = omega (arith, start_short deepest c.args.left c.args.start c.requires.1)
+pub overflow_shl-n : goal.overflow_shl-n
+overflow_shl-n c = column_short c.args.start c.args.left c.args.k c.requires
 
 pub overflow_mul-first : goal.overflow_mul-first
-unfolding longest_laxity tally_grades deepest
-overflow_mul-first c =
-    let inside : (c.args.start * c.width-n.result + c.width-n.result ≤ tally_grades) × (c.args.k < longest_laxity) =
-    let w = c.width-n.ensures in
-    (omega (arith, c.requires.1, w, ap (λ n. c.args.start * n) w), c.requires.0) in
-    omega (arith, inside)
+overflow_mul-first c = omega (arith, column_inside c.args.start c.args.left c.args.k c.requires)
 
 pub overflow_mul-first-2 : goal.overflow_mul-first-2
-unfolding tally_grades deepest
-overflow_mul-first-2 c =
-    let inside : (c.args.start * c.width-n.result + c.width-n.result ≤ tally_grades) × (c.args.k < longest_laxity) =
-    let w = c.width-n.ensures in
-    (omega (arith, c.requires.1, w, ap (λ n. c.args.start * n) w), c.requires.0) in
-    omega (arith, inside)
+overflow_mul-first-2 c = omega (arith, column_inside c.args.start c.args.left c.args.k c.requires)
 
 pub overflow_add-first : goal.overflow_add-first
-unfolding longest_laxity tally_grades deepest
-overflow_add-first c =
-    let inside : (c.args.start * c.width-n.result + c.width-n.result ≤ tally_grades) × (c.args.k < longest_laxity) =
-    let w = c.width-n.ensures in
-    (omega (arith, c.requires.1, w, ap (λ n. c.args.start * n) w), c.requires.0) in
-    omega (arith, inside)
+overflow_add-first c = omega (arith, column_inside c.args.start c.args.left c.args.k c.requires)
 
-pub overflow_add-end : goal.overflow_add-end
-unfolding longest_laxity tally_grades deepest
-overflow_add-end c =
-    let inside : (c.args.start * c.width-n.result + c.width-n.result ≤ tally_grades) × (c.args.k < longest_laxity) =
-    let w = c.width-n.ensures in
-    (omega (arith, c.requires.1, w, ap (λ n. c.args.start * n) w), c.requires.0) in
-    omega (arith, inside)
+pub overflow_add-count-items : goal.overflow_add-count-items
+overflow_add-count-items c = omega (arith, column_inside c.args.start c.args.left c.args.k c.requires)
 
-pub loop-j-init : goal.loop-j-init
+pub offset_bounds-counts-first : goal.offset_bounds-counts-first
+offset_bounds-counts-first c = omega (arith, column_inside c.args.start c.args.left c.args.k c.requires)
+
+pub slice_bounds-count-items-end : goal.slice_bounds-count-items-end
+slice_bounds-count-items-end c = omega (arith, column_inside c.args.start c.args.left c.args.k c.requires)
+
+pub loop-count-init : goal.loop-count-init
 unfolding sum
-loop-j-init c =
-    let f = cell_from c.args.counts.now c.args.start c.args.left c.args.k in
-    let at = c.args.k * 8 + c.args.start * c.width-n.result in
-    let none : 0 ≡ at - at = omega arith in
-    (omega arith, omega arith, omega arith, ap (sum f) none)
+loop-count-init c = record { bounded = omega arith; exact = refl }
 
-pub offset_bounds-counts-j : goal.offset_bounds-counts-j
-unfolding longest_laxity tally_grades deepest
-offset_bounds-counts-j c =
-    let inside : (c.args.start * c.width-n.result + c.width-n.result ≤ tally_grades) × (c.args.k < longest_laxity) =
-    let w = c.width-n.ensures in
-    (omega (arith, c.requires.1, w, ap (λ n. c.args.start * n) w), c.requires.0) in
-    omega (arith, inside)
-
-pub bounds-counts-j : goal.bounds-counts-j
-unfolding longest_laxity tally_grades deepest
-bounds-counts-j c =
-    let inside : (c.args.start * c.width-n.result + c.width-n.result ≤ tally_grades) × (c.args.k < longest_laxity) =
-    let w = c.width-n.ensures in
-    (omega (arith, c.requires.1, w, ap (λ n. c.args.start * n) w), c.requires.0) in
-    omega (arith, inside)
-
-pub overflow_add-j : goal.overflow_add-j
-unfolding longest_laxity tally_grades deepest
-overflow_add-j c =
-    let inside : (c.args.start * c.width-n.result + c.width-n.result ≤ tally_grades) × (c.args.k < longest_laxity) =
-    let w = c.width-n.ensures in
-    (omega (arith, c.requires.1, w, ap (λ n. c.args.start * n) w), c.requires.0) in
-    omega (arith, inside)
-
-pub loop-j-preserved : goal.loop-j-preserved
-unfolding cell tally_grades
-loop-j-preserved c =
-    let passed = c.loop-j.j - (c.args.k * tally_grades + c.args.start * c.width-n.result) in
+pub overflow_add-total : goal.overflow_add-total
+unfolding deepest
+overflow_add-total c =
     let a = c.args in
-    let t = a.counts.now in
-    let i = passed in
-    let e : c.loop-j.j ≡ cell a.k (a.start * 2 ^ a.left) + i = omega (arith, ap (λ n. a.start * n) c.width-n.ensures) in
-    let v : c.wide-total.result ≡ cell_from t a.start a.left a.k i = c.wide-total.ensures.0 ∙ ap (λ j. get_or t j 0) e in
-    let f = cell_from t a.start a.left a.k in
-    let next : i + 1 ≡ c.loop-j.j + 1 - (a.k * tally_grades + a.start * c.width-n.result) = omega arith in
-    (omega arith, omega arith, omega (arith, c.wide-total.ensures.1), omega (arith, v, sum_more f i, c.loop-j.invariant.3, ap (sum f) next))
+    omega (arith, all_cells a.start a.left a.k c.requires a.counts.now (search rules), column_narrow a.start a.left a.k c.requires)
+
+pub loop-count-preserved : goal.loop-count-preserved
+loop-count-preserved c =
+    let a = c.args in
+    let i = c.loop-count.count-index in
+    let v = cell_at a.start a.left a.k c.requires a.counts.now i c.loop-count-test.true in
+    record {
+      bounded = omega arith;
+      exact = omega (arith, v, sum_more (cell_from a.counts.now a.start a.left a.k) i, c.loop-count.invariant.exact);
+    }
 
 pub returns : goal.returns
-unfolding column tally_grades deepest
+unfolding column deepest
 returns c =
-    let inside : (c.args.start * c.width-n.result + c.width-n.result ≤ tally_grades) × (c.args.k < longest_laxity) =
-    let w = c.width-n.ensures in
-    (omega (arith, c.requires.1, w, ap (λ n. c.args.start * n) w), c.requires.0) in
-    let passed = c.loop-j.j - (c.args.k * tally_grades + c.args.start * c.width-n.result) in
     let a = c.args in
-    let l = c.loop-j in
-    let e : passed ≡ 2 ^ a.left = omega (arith, c.width-n.ensures) in
-    (l.invariant.3 ∙ ap (sum (cell_from a.counts.now a.start a.left a.k)) e, omega (arith, inside))
+    let e : c.loop-count.count-index ≡ 2 ^ a.left = omega (arith, all_cells a.start a.left a.k c.requires a.counts.now (search rules)) in
+    (c.loop-count.invariant.exact ∙ ap (sum (cell_from a.counts.now a.start a.left a.k)) e, omega (arith, e, column_narrow a.start a.left a.k c.requires))

@@ -1,7 +1,5 @@
 -- Best is the best of the laxities passed.
-use mathlib.Core.Path.{◌≡◌, refl, subst}
-use native.Mathlib.Omega.{arith}
-use borrow.Author.Rules.{rules}
+use Rattle.std.proofs.Common.{◌≡◌, refl, subst, arith}
 use Rattle.board.specs.Limits.{longest_laxity, deepest}
 use Rattle.search.specs.Inner.Counts.{sum, column}
 use Rattle.search.proofs.Sums.{sum_more}
@@ -10,38 +8,25 @@ use Rattle.search.proofs.FromCounts.{tight_of}
 use Rattle.search.proofs.tight.tight.Goals as goal
 
 pub loop-k-init : goal.loop-k-init
-unfolding longest_laxity deepest sum
-loop-k-init c = (omega arith, omega arith, refl, best_none _)
-
-pub column_of-here-requires : goal.column_of-here-requires
-unfolding longest_laxity deepest
-column_of-here-requires c = (omega arith, omega arith)
-
-pub better-best-requires : goal.better-best-requires
-unfolding longest_laxity deepest
-better-best-requires c = (omega arith, omega (arith, c.column_of-here.ensures.1))
-
-pub overflow_add-within : goal.overflow_add-within
-unfolding longest_laxity deepest
-overflow_add-within c = omega (arith, c.column_of-here.ensures.1)
-
-pub loop-k-smaller : goal.loop-k-smaller
-unfolding longest_laxity deepest
-loop-k-smaller c = search rules
+unfolding deepest sum
+loop-k-init c = record { few = omega arith; counted = refl; tightest = best_none _ }
 
 pub loop-k-preserved : goal.loop-k-preserved
-unfolding longest_laxity deepest
+unfolding deepest
 loop-k-preserved c =
-    let a = c.args in
-    let f = column a.counts.now 0 deepest in
+    let f = column c.args.counts.now 0 deepest in
     let h = c.column_of-here.ensures in
-    let w = c.loop-k.invariant.2 in
-    (omega arith, omega (arith, h.1), omega (arith, h.0, w, sum_more f c.loop-k.k), rw (c.better-best.ensures, h.0, w) (best_more f c.loop-k.k c.loop-k.invariant.3))
+    let i = c.loop-k.invariant in
+    record {
+      few = omega (arith, h.1, i.few);
+      counted = omega (arith, h.0, i.counted, sum_more f c.loop-k.k);
+      tightest = rw (c.better-best.ensures, h.0, i.counted) (best_more f c.loop-k.k i.tightest);
+    }
 
 pub returns : goal.returns
-unfolding longest_laxity deepest
+unfolding longest_laxity
 returns c =
-    let a = c.args in
+    let t = c.args.counts.now in
     let l = c.loop-k in
     let e : l.k ≡ longest_laxity = omega arith in
-    tight_of a.counts.now 0 deepest l.best (subst (λ n. BestTo (column a.counts.now 0 deepest) n l.best) e l.invariant.3)
+    tight_of t 0 deepest l.best (subst (λ n. BestTo (column t 0 deepest) n l.best) e l.invariant.tightest)
