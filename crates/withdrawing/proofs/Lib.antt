@@ -1,3 +1,3 @@
-pub mod Seeking
+pub mod Sought
 pub mod Rows
 pub mod OnSound

@@ -1,95 +1,83 @@
 // Withdrawing a job: 02's rows 2, 3 and 17 in order, then the board without it.
 #![tactic(auto)]
 
-ghost use Rattle.std.specs.Prelude.{◌≡◌};
-ghost use Rattle.rule.specs.Job.{with_ticket};
-ghost use Rattle.board.specs.Held.{held};
-ghost use Rattle.board.specs.Withdraw.{without_ticket, withdrawn_refused, withdrawn};
-ghost use Rattle.withdrawing.specs.Inner.AnyBoard.{job_at, withdrawn_by_rows};
+ghost use Rattle.std.specs.Prelude.{◌≡◌, ◌==◌};
+ghost use Rattle.std.specs.List.{find};
+ghost use Rattle.board.specs.Held.{used};
+ghost use Rattle.board.specs.Withdraw.{without_ticket, withdrawn};
+ghost use Rattle.withdrawing.specs.Inner.AnyBoard.{withdrawn_of, withdrawn_by_rows};
 
-use board::{Board, Place, Withdrawn};
+use board::{Board, Place, Refusal, Withdrawn};
 
-// The place of the job with this ticket; a number past the places where no job has it.
-fn place_of(b: Board, ticket: u32) -> usize
-    ensures { job_at b result ≡ with_ticket ticket (held b) }
+// The first job on the board that has this ticket.
+#[tactic(auto, unfolding(board::specs::Held::used))]
+fn job_with(b: &Board, ticket: u32) -> Option<Place>
+    ensures { result ≡ find (λ p. p.ticket == ticket) (used b.now) }
 {
-    let count = lists::lesser(b.count, Board::PLACES);
-    let mut i: usize = 0;
-    while i < count {
-        if b.places[i].ticket == ticket {
-            return i;
-        }
-        i += 1;
-    }
-    Board::PLACES
+    b.places
+        .iter()
+        .take(b.count)
+        .copied()
+        .find(|p| p.ticket == ticket)
 }
 
 // The board without the job that has this ticket.
 fn without(b: Board, ticket: u32) -> Board
     ensures { result ≡ without_ticket b ticket }
 {
-    let count = lists::lesser(b.count, Board::PLACES);
+    let held = b.count.min(Board::PLACES);
     let mut places = [Place::blank(); Board::PLACES];
-    let mut n: usize = 0;
-    let mut i: usize = 0;
-    while i < count {
-        let p = b.places[i];
+    let mut count: usize = 0;
+    for p in &b.places[..held] {
         if p.ticket != ticket {
-            places[n] = p;
-            n += 1;
+            places[count] = *p;
+            count += 1;
         }
-        i += 1;
     }
-    Board {
-        depth: b.depth,
-        slot: b.slot,
-        highest: b.highest,
-        count: n,
-        places,
-    }
+    Board { count, places, ..b }
 }
 
-// The answer of a refused withdrawal.
-fn refused(number: u8, b: Board) -> Withdrawn
-    ensures { result ≡ withdrawn_refused number b }
-{
-    Withdrawn {
-        refusal: number,
-        grade: 0,
-        board: b,
-    }
-}
-
-// Rows 3 and 17 of any board, and then the board without the job. On a sound board that is 02's withdrawal.
-pub fn withdraw_by_rows(b: Board, ticket: u32) -> Withdrawn
-    ensures { result ≡ withdrawn_by_rows b ticket }
+// Rows 3 and 17 of any board, and then the board without the job, whose grade is the answer. On a sound board that is 02's
+// withdrawal. A board whose withdrawal is refused stays as it was.
+pub fn withdraw_by_rows(b: &mut Board, ticket: u32) -> Result<u8, Refusal>
+    ensures { withdrawn_of result b.new ≡ withdrawn_by_rows b.old ticket }
 {
     if b.slot.0 == Board::LAST_SLOT + 1 {
-        return refused(3, b);
+        return Err(Refusal::BookEnded);
     }
-    let at = place_of(b, ticket);
-    if Board::PLACES <= at {
-        return refused(17, b);
+    let job = job_with(b, ticket).ok_or(Refusal::NotToWithdraw)?;
+    if job.admitted.0 == b.slot.0 {
+        return Err(Refusal::NotToWithdraw);
     }
-    let p = b.places[at];
-    if p.admitted.0 == b.slot.0 {
-        return refused(17, b);
-    }
-    let board = without(b, ticket);
-    Withdrawn {
-        refusal: 0,
-        grade: p.grade,
-        board,
+    *b = without(*b, ticket);
+    Ok(job.grade)
+}
+
+// The answer of a withdrawal, with the board that it leaves.
+fn answered(grade: Result<u8, Refusal>, board: Board) -> Withdrawn
+    ensures { result ≡ withdrawn_of grade board }
+{
+    match grade {
+        Ok(grade) => Withdrawn {
+            refusal: 0,
+            grade,
+            board,
+        },
+        Err(refusal) => Withdrawn {
+            refusal: refusal.number(),
+            grade: 0,
+            board,
+        },
     }
 }
 
 // Withdraws a job: 02's rows 2, 3 and 17 in order, then the board without it.
-pub fn withdraw(b: Board, ticket: u32) -> Withdrawn
+pub fn withdraw(mut b: Board, ticket: u32) -> Withdrawn
     ensures { result ≡ withdrawn b ticket }
 {
-    if soundness::is_sound(b) {
-        withdraw_by_rows(b, ticket)
-    } else {
-        refused(2, b)
+    if !soundness::is_sound(b) {
+        return answered(Err(Refusal::NotSound), b);
     }
+    let grade = withdraw_by_rows(&mut b, ticket);
+    answered(grade, b)
 }

@@ -1,52 +1,38 @@
 -- After i places the new ones begin with those among them that have another ticket.
-use mathlib.Core.Path.{ap}
+use mathlib.Core.Path.{◌≡◌, ap}
 use mathlib.Core.Bool.{not}
+use Prim.Native.Nat.{◌<◌}
+use lib.ListN.{get_or, take, length-take}
 use native.Mathlib.Omega.{arith}
-use borrow.Author.Rules.{rules}
 use borrow.Author.Tests.{eq-eqb, ne_eqb}
+use Rattle.std.proofs.lemmas.List.{get_or-take}
 use Rattle.board.specs.Limits.{places_held}
-use Rattle.board.specs.Held.{job_in}
+use Rattle.board.specs.Held.{job_in, blank}
 use Rattle.board.specs.Withdraw.{without_ticket}
 use Rattle.board.proofs.Known.{all_places}
+use Rattle.board.proofs.Walk.{place_at}
 use Rattle.board.proofs.Thinning.{thinning_none, thinning_same, thinning_more, thinning_all}
 use Rattle.withdrawing.proofs.without.Goals as goal
 use Rattle.withdrawing.proofs.without.Goals.{else-p-ticket, then-p-ticket}
 
-pub loop-i-init : goal.loop-i-init
+pub loop-p-init : goal.loop-p-init
 unfolding places_held
-loop-i-init c =
-    rw c.blank-places.ensures (thinning_none (all_places c.args.b _ c.well_formed.0) c.lesser-count.ensures)
+loop-p-init c = rw c.blank-places.ensures (thinning_none (all_places c.args.b _ c.well_formed.0) c.min-held.ensures)
 
-pub offset_bounds-b-i : goal.offset_bounds-b-i
-unfolding places_held
-offset_bounds-b-i c = search rules
-
-pub bounds-b-i : goal.bounds-b-i
-unfolding places_held
-bounds-b-i c = search rules
-
-pub offset_bounds-places-n : goal.offset_bounds-places-n
-unfolding places_held
-offset_bounds-places-n c = search rules
-
-pub bounds-places-n : goal.bounds-places-n
-unfolding places_held
-bounds-places-n c = search rules
-
-pub overflow_add-n : goal.overflow_add-n
-unfolding places_held
-overflow_add-n c = search rules
-
-pub overflow_add-i : goal.overflow_add-i
-unfolding places_held
-overflow_add-i c = search rules
-
-pub loop-i-preserved : goal.loop-i-preserved
+pub loop-p-preserved : goal.loop-p-preserved
 unfolding job_in
-loop-i-preserved c =
-    let h = c.loop-i-test.true in
-    elim c.if-p-ticket.branch [ then-p-ticket w ↦ rw (w.places-is, w.n-is) (thinning_more c.loop-i.invariant h (ap not (ne_eqb _ _ w.if-p-ticket.true))) | else-p-ticket w ↦ rw (w.places-is, w.n-is) (thinning_same c.loop-i.invariant h (ap not (eq-eqb _ _ w.if-p-ticket.false))) ]
+loop-p-preserved c =
+    let b = c.args.b in
+    let h : c.loop-p.p-index < c.min-held.result = omega (arith, length-take c.min-held.result b.places) in
+    let here : get_or (take c.min-held.result b.places) c.loop-p.p-index blank ≡ place_at b c.loop-p.p-index = get_or-take c.min-held.result b.places c.loop-p.p-index blank h in
+    elim c.if-p-ticket.branch [
+      | then-p-ticket w ↦
+          rw (w.places-is, w.count-is, here) (thinning_more c.loop-p.invariant h (ap not (ne_eqb _ _ (rw here at w.if-p-ticket.true))))
+      | else-p-ticket w ↦ rw (w.places-is, w.count-is) (thinning_same c.loop-p.invariant h (ap not (eq-eqb _ _ (rw here at w.if-p-ticket.false))))
+    ]
 
 pub returns : goal.returns
-unfolding without_ticket
-returns c = thinning_all c.loop-i.invariant (omega arith) _
+unfolding without_ticket places_held
+returns c =
+    let w = c.loop-p.invariant.walked in
+    thinning_all c.loop-p.invariant (omega (arith, w.full, w.in_use, length-take c.min-held.result c.args.b.places)) _

@@ -1,5 +1,5 @@
 use mathlib.Core.Bool.{Bool, not}
-use Prim.Native.Nat.{ℕ, ◌-◌}
+use Prim.Native.Nat.{ℕ}
 use lib.Dec.{eqb}
 use Rattle.rule.specs.Job.{Job}
 use Rattle.board.proofs.Thinning.{Thinning}
@@ -9,8 +9,5 @@ use Rattle.withdrawing.proofs.without.Given as goal
 abbrev other : ℕ → Job → Bool
 other t r = not (eqb r.ticket t)
 
-abbrev pub invariant-loop-i : goal.invariant-loop-i
-invariant-loop-i l = Thinning l.b (other l.ticket) l.count l.i l.n l.places
-
-abbrev pub decreases-loop-i : goal.decreases-loop-i
-decreases-loop-i l = l.count - l.i
+abbrev pub invariant-loop-p : goal.invariant-loop-p
+invariant-loop-p l = Thinning l.fn.b (other l.ticket) l.held l.p-index l.count l.places

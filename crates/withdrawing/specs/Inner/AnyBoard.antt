@@ -1,17 +1,17 @@
 -- A withdrawal of which soundness is no part.
-use Rattle.std.specs.Prelude.{cond, ℕ, ltb, get_or}
-use Rattle.std.proofs.Math.Option.{Option, none, some}
-use Rattle.rule.specs.Job.{Job}
+use Rattle.std.specs.Prelude.{ℕ, Result, Ok, Err}
 use Rattle.board.specs.declared.Board.{Board}
 use Rattle.board.specs.declared.Withdrawn.{Withdrawn}
-use Rattle.board.specs.Limits.{places_held}
+use Rattle.board.specs.declared.refusal.Refusal.{Refusal}
+use Rattle.board.specs.Refusals.{number_of}
 use Rattle.board.specs.Rows.{first_given, withdraw_rows}
-use Rattle.board.specs.Held.{slot_of, job_in, blank, held}
-use Rattle.board.specs.Withdraw.{withdrawn_if}
+use Rattle.board.specs.Held.{slot_of, held}
+use Rattle.board.specs.Withdraw.{withdrawn_refused, withdrawn_if}
 
--- the job in a place; none past the places
-unfoldable pub job_at : Board → ℕ → Option Job
-job_at b i = cond (ltb i places_held) (some (job_in (get_or b.places i blank))) none
+-- what a withdrawal answers, from the grade of the job taken off or its refusal, and the board that it leaves
+abbrev pub withdrawn_of : Result ℕ Refusal → Board → Withdrawn
+withdrawn_of (Ok g) b = record { refusal = 0; grade = g; board = b }
+withdrawn_of (Err r) b = withdrawn_refused (number_of r) b
 
 -- by rows 3 and 17 alone; on a sound board this is 02's withdrawal (proofs/OnSound)
 unfoldable pub withdrawn_by_rows : Board → (ticket : ℕ) → Withdrawn
