@@ -1,18 +1,19 @@
 // The rows of a closing: 01's rows 3 and 8.
 ghost use Rattle.std.specs.Prelude.{◌≡◌};
+ghost use Rattle.board.specs.Refusals.{refusal_number};
 ghost use Rattle.board.specs.Rows.{first_given, close_rows};
 
-use board::{Board, Slot};
+use board::{Board, Refusal, Slot};
 
-// Rows 3 and 8, with so many entries lent: the number of the refusal, or 0.
-pub fn refusal(now: Slot, lent: usize) -> u8
-    ensures { result ≡ first_given (close_rows now.0 lent) }
+// The first of rows 3 and 8 that fails, with so many entries lent.
+pub fn first_row(now: Slot, lent: usize) -> Result<(), Refusal>
+    ensures { refusal_number result ≡ first_given (close_rows now.0 lent) }
 {
     if now.0 == Board::LAST_SLOT + 1 {
-        return 3;
+        return Err(Refusal::BookEnded);
     }
     if lent < Board::PLACES {
-        return 8;
+        return Err(Refusal::ListTooShort);
     }
-    0
+    Ok(())
 }

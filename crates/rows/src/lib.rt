@@ -3,9 +3,10 @@
 
 ghost use Rattle.std.specs.Prelude.{◌≡◌, ◌&&◌, ◌≤◌, leb};
 ghost use Rattle.board.specs.Limits.{longest_laxity, deepest};
+ghost use Rattle.board.specs.Refusals.{refusal_number};
 ghost use Rattle.board.specs.Rows.{first_given, admit_rows};
 
-use board::{Board, Laxity, Slot};
+use board::{Board, Laxity, Refusal, Slot};
 
 pub mod close;
 
@@ -16,7 +17,7 @@ fn laxity_allowed(laxity: Laxity) -> bool
     1 <= laxity.0 && laxity.0 <= Board::LONGEST_LAXITY
 }
 
-// The number of the first of 01's rows 3 to 7 that fails, 0 where none does. `taken` jobs were admitted in the slot.
+// The first of 01's rows 3 to 7 that fails. `taken` jobs were admitted in the slot.
 pub fn first_row(
     slot: Slot,
     highest: u32,
@@ -25,25 +26,23 @@ pub fn first_row(
     ticket: u32,
     laxity: Laxity,
     grade: u32,
-) -> u8
-    ensures { depth ≤ deepest → result ≡ first_given (admit_rows slot.0 highest taken depth ticket laxity.0 grade) }
+) -> Result<(), Refusal>
+    ensures { depth ≤ deepest → refusal_number result ≡ first_given (admit_rows slot.0 highest taken depth ticket laxity.0 grade) }
 {
-    let allowed = laxity_allowed(laxity);
-    let most = Board::grade_count(depth);
     if slot.0 == Board::LAST_SLOT + 1 {
-        return 3;
+        return Err(Refusal::BookEnded);
     }
     if ticket <= highest {
-        return 4;
+        return Err(Refusal::TicketNotHigher);
     }
-    if !allowed {
-        return 5;
+    if !laxity_allowed(laxity) {
+        return Err(Refusal::LaxityOutside);
     }
-    if most <= grade {
-        return 6;
+    if Board::grade_count(depth) <= grade {
+        return Err(Refusal::GradeTooHigh);
     }
     if Board::MOST_IN_SLOT <= taken {
-        return 7;
+        return Err(Refusal::SlotFull);
     }
-    0
+    Ok(())
 }

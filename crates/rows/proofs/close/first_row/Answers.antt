@@ -2,7 +2,7 @@
 use borrow.Author.Tests.{eq-eqb, ne_eqb, le-leb, lt-leb}
 use Rattle.board.specs.Limits.{places_held, last_slot}
 use Rattle.board.specs.Rows.{◌if◌, first_given, close_rows}
-use Rattle.rows.proofs.close.refusal.Goals as goal
+use Rattle.rows.proofs.close.first_row.Goals as goal
 
 pub returns-then-now : goal.returns-then-now
 unfolding first_given close_rows ◌if◌ last_slot
