@@ -1,2 +1,2 @@
 pub mod InLimits
-pub mod Packed
+pub mod Answered
