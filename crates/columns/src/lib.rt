@@ -1,5 +1,5 @@
 // Numbers put to the right into the columns of a line.
-#![tactic(auto)]
+#![tactic(auto, unfolding(crate::specs::Inner::Digits::column_byte, crate::specs::Inner::Digits::no_digit, lines::specs::Sheet::space))]
 
 ghost use Rattle.std.specs.Prelude.{◌≡◌, ◌+◌, leb, length};
 ghost use Rattle.lines.specs.Printing.{decimal};
@@ -12,9 +12,10 @@ fn column_byte(begun: bool, rest: u64) -> u8
     ensures { result ≡ column_byte begun rest }
 {
     if begun && rest == 0 {
-        return b' ';
+        b' '
+    } else {
+        b'0' + (rest % 10) as u8
     }
-    b'0' + (rest % 10) as u8
 }
 
 // Puts the digits of n to the right into so many columns, the last digit first; where the columns end. Where there is no room for them nothing is put,
@@ -26,12 +27,9 @@ pub fn put_right(out: &mut [u8], at: usize, width: usize, n: u64) -> usize
     if !buffer::room_for(width, at, out.len()) {
         return at;
     }
-    let mut left = width;
     let mut rest = n;
-    while 0 < left {
-        let b = column_byte(left < width, rest);
-        left -= 1;
-        out[at + left] = b;
+    for left in (0..width).rev() {
+        out[at + left] = column_byte(left + 1 < width, rest);
         rest /= 10;
     }
     at + width

@@ -1,3 +1,4 @@
 pub mod Known
 pub mod OnPage
 pub mod Handed
+pub mod Refused

@@ -1,6 +1,8 @@
 -- A page as the code holds it, as the closings of the definitions.
-use Rattle.std.specs.Prelude.{cond, List, map, ℕ, zero, suc, leb, take, set, replicate}
+use Rattle.std.specs.Prelude.{cond, List, map, ℕ, zero, suc, leb, take, set, replicate, Result}
 use Rattle.board.specs.Held.{slot_number}
+use Rattle.board.specs.declared.refusal.Refusal.{Refusal}
+use Rattle.board.specs.Refusals.{refusal_number}
 use Rattle.lines.specs.Sheet.{Figures, page_slots, sheet_number}
 use Rattle.page.specs.declared.Figures.{Figures as FiguresHeld}
 use Rattle.page.specs.declared.Page.{Page}
@@ -30,3 +32,7 @@ handed_over_if (suc n) p f = record { refusal = suc n; page = p }
 
 unfoldable pub handed_over : Page → FiguresHeld → HandedOver
 handed_over p f = handed_over_if (sheet_number (figures_held f)) p f
+
+-- what is answered of a page that has become this one
+abbrev pub handed : Result Unit Refusal → Page → HandedOver
+handed r p = record { refusal = refusal_number r; page = p }

@@ -1,2 +1,3 @@
+pub mod Cells
 pub mod Fitting
 pub mod Left

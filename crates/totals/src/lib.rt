@@ -1,5 +1,5 @@
 // The totals of a page.
-#![tactic(auto)]
+#![tactic(auto, unfolding(lines::specs::Sheet::page_slots))]
 
 ghost use Rattle.std.specs.Prelude.{◌≡◌};
 ghost use Rattle.lines.specs.Sheet.{number_baked, number_given_up};
@@ -15,21 +15,18 @@ pub struct Totals {
 }
 
 // The totals of the page.
-pub fn totals_of(p: Page) -> Totals
-    ensures baked { result.baked ≡ number_baked (page_of p) }
-    ensures given_up { result.listed ≡ number_given_up (page_of p) }
+pub fn totals_of(p: &Page) -> Totals
+    ensures baked { result.baked ≡ number_baked (page_of p.now) }
+    ensures given_up { result.listed ≡ number_given_up (page_of p.now) }
 {
-    let count = page::closing_count(p);
+    let count = p.closing_count();
     let mut baked: u64 = 0;
     let mut listed: u64 = 0;
-    let mut i: usize = 0;
-    while i < count {
-        let f = p.closings[i];
+    for f in &p.closings[..count] {
         listed += f.listed as u64;
         if f.ticket != 0 {
             baked += 1;
         }
-        i += 1;
     }
     Totals { baked, listed }
 }

@@ -10,10 +10,6 @@ use Rattle.columns.proofs.put_right.Given as goal
 
 abbrev pub invariant-loop-left : goal.invariant-loop-left
 invariant-loop-left l =
-    (l.left ≤ l.width)
-    × (l.at + l.width ≤ length l.initial.out)
+    (l.at + l.width ≤ length l.initial.out)
     × (length l.out ≡ length l.initial.out)
     × (put l.out l.at (to_right l.left (digits_left (ltb l.left l.width) l.rest)) ≡ put l.initial.out l.at (to_right l.width (decimal l.n)))
-
-abbrev pub decreases-loop-left : goal.decreases-loop-left
-decreases-loop-left l = l.left

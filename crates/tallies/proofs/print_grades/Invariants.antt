@@ -8,10 +8,6 @@ use Rattle.tallies.proofs.print_grades.Given as goal
 
 abbrev pub invariant-loop-g : goal.invariant-loop-g
 invariant-loop-g l =
-    (l.g ≤ l.grades)
-    × (l.end ≤ l.at + room * l.g)
+    (l.end ≤ l.at + room * l.g)
     × (length l.out ≡ length l.initial.out)
     × Left (printed_tally l.grades 0 l.t) l.initial.out l.at (printed_tally (l.grades - l.g) l.g l.t) l.out l.end
-
-abbrev pub decreases-loop-g : goal.decreases-loop-g
-decreases-loop-g l = l.grades - l.g

@@ -2,7 +2,7 @@
 use mathlib.Core.Path.{ap}
 use lib.Dec.{leb}
 use Rattle.lines.specs.Sheet.{page_slots, is_full}
-use Rattle.page.proofs.is_full.Goals as goal
+use Rattle.page.proofs.Page.is_full.Goals as goal
 
 pub returns : goal.returns
 unfolding is_full page_slots
