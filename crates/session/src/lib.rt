@@ -118,13 +118,18 @@ fn do_line(
         (GoodDay day.old → Room expired.old grades.old slots.old → Did day.old (step (session_of day.old).board line.now) r expired.new grades.new) }
 {
     let asked = reading::read_line(line, day.board.is_some())?;
-    let tally = &mut day.tally;
     let answer = match (asked, &mut day.board) {
         (Asked::Open(depth), _) => open_line(day, depth)?,
-        (Asked::Admit(ticket, laxity, grade), Some(board)) => admit_line(board, tally, ticket, laxity, grade)?,
-        (Asked::Close, Some(board)) => return close_line(board, tally, expired, grades, slots),
+        (Asked::Admit(ticket, laxity, grade), Some(board)) => {
+            admit_line(board, &mut day.tally, ticket, laxity, grade)?
+        }
+        (Asked::Close, Some(board)) => {
+            return close_line(board, &mut day.tally, expired, grades, slots);
+        }
         (Asked::Promise, Some(board)) => promise_line(board)?,
-        (Asked::Withdraw(ticket), Some(board)) => withdraw_line(board, tally, ticket)?,
+        (Asked::Withdraw(ticket), Some(board)) => {
+            withdraw_line(board, &mut day.tally, ticket)?
+        }
         (_, None) => unreachable!(),
     };
     Ok(Stepped { answer, listed: 0 })
