@@ -19,12 +19,27 @@ pub struct Entry {
     pub admitted: Slot,
 }
 
-// The entries of the jobs given up, each part in an array of its own.
+// The entries of the jobs given up, each part in an array of its own, as `closing::close` writes them for C.
 #[derive(Clone, Copy)]
 struct Parts {
     tickets: [u32; Board::PLACES],
     grades: [u8; Board::PLACES],
     slots: [u32; Board::PLACES],
+}
+
+impl Parts {
+    // One entry, put together from its parts.
+    #[tactic(auto, unfolding(board::specs::Limits::places_held, crate::specs::Inner::Parts::entry_at))]
+    fn entry(&self, i: usize) -> Entry
+        requires { i < places_held }
+        ensures { result ≡ entry_at self.now i }
+    {
+        Entry {
+            ticket: self.tickets[i],
+            grade: self.grades[i],
+            admitted: Slot(self.slots[i]),
+        }
+    }
 }
 
 // What a closing answers, how many jobs it gives up, and their entries.
@@ -42,7 +57,7 @@ fn closing(b: Board, lent: usize) -> ClosedParts
     let mut tickets = [0u32; Board::PLACES];
     let mut grades = [0u8; Board::PLACES];
     let mut slots = [0u32; Board::PLACES];
-    let n = lists::lesser(lent, Board::PLACES);
+    let n = lent.min(Board::PLACES);
     let answer = closing::close(b, &mut tickets[..n], &mut grades[..n], &mut slots[..n]);
     let count = answer.listed as usize;
     let parts = Parts {
@@ -57,19 +72,6 @@ fn closing(b: Board, lent: usize) -> ClosedParts
     }
 }
 
-// One entry, put together from its parts.
-#[tactic(auto, unfolding(board::specs::Limits::places_held, crate::specs::Inner::Parts::entry_at))]
-fn entry_at(p: Parts, i: usize) -> Entry
-    requires { i < places_held }
-    ensures { result ≡ entry_at p i }
-{
-    Entry {
-        ticket: p.tickets[i],
-        grade: p.grades[i],
-        admitted: Slot(p.slots[i]),
-    }
-}
-
 // Closes a slot and writes the jobs given up from the start of a list of entries that the caller lends.
 #[unsafe(no_mangle)]
 pub extern "C" fn oven_close_into(b: Board, list: &mut [Entry]) -> Closed
@@ -77,12 +79,8 @@ pub extern "C" fn oven_close_into(b: Board, list: &mut [Entry]) -> Closed
     ensures list { list.new ≡ written_over entry_of (listing b (length list.old)) list.old }
 {
     let closed = closing(b, list.len());
-    let count = closed.count;
-    let parts = closed.parts;
-    let mut i: usize = 0;
-    while i < count {
-        list[i] = entry_at(parts, i);
-        i += 1;
+    for i in 0..closed.count {
+        list[i] = closed.parts.entry(i);
     }
     closed.answer
 }

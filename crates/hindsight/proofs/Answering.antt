@@ -1,6 +1,6 @@
 -- The answer, by the rows that refuse a list.
 use mathlib.Core.Path.{◌≡◌, sym, ap, ◌∙◌}
-use mathlib.Core.Bool.{Bool, true, false, not}
+use mathlib.Core.Bool.{true, false, not}
 use mathlib.Core.List.{List, [], ◌∷◌}
 use Prim.Native.Nat.{ℕ, zero, suc, ◌≤◌, ◌<◌}
 use native.Mathlib.Omega.{arith}
@@ -24,9 +24,23 @@ number_some : (r : Refusal) → 1 ≤ number_of r
 number_some r = grind arith
 
 module _ (d : Jobs) where
+  -- the number that the rows give
   pub rows_many : most_jobs < d.count → first_given (best_day_rows d) ≡ 18
   unfolding best_day_rows first_given ◌if◌
   rows_many h = ap (λ b. first_given (18 if b ∷ 19 if not (every is_window (windows_of d)) ∷ [])) (lt-ltb most_jobs d.count h)
+
+  module _ (h : d.count ≤ most_jobs) where
+    few : first_given (best_day_rows d) ≡ first_given (19 if not (every is_window (windows_of d)) ∷ [])
+    unfolding best_day_rows
+    few = row_skipped 18 (ltb most_jobs d.count) (19 if not (every is_window (windows_of d)) ∷ []) (le-ltb most_jobs d.count h)
+
+    pub rows_no_window : every is_window (windows_of d) ≡ false → first_given (best_day_rows d) ≡ 19
+    unfolding first_given ◌if◌
+    rows_no_window e = few ∙ ap (λ b. first_given (19 if not b ∷ [])) e
+
+    pub rows_none : every is_window (windows_of d) ≡ true → first_given (best_day_rows d) ≡ 0
+    unfolding first_given ◌if◌
+    rows_none e = few ∙ ap (λ b. first_given (19 if not b ∷ [])) e
 
   by_rows : (n : ℕ) → first_given (best_day_rows d) ≡ n → best_day d ≡ best_day_if n d
   unfolding best_day
@@ -50,16 +64,10 @@ module _ (d : Jobs) where
   too_many h = by_rows 18 (rows_many h)
 
   module _ (h : d.count ≤ most_jobs) where
-    pub rows_few : (b : Bool) → every is_window (windows_of d) ≡ b → first_given (best_day_rows d) ≡ first_given (19 if not b ∷ [])
-    unfolding best_day_rows
-    rows_few b e =
-        row_skipped 18 (ltb most_jobs d.count) (19 if not (every is_window (windows_of d)) ∷ []) (le-ltb most_jobs d.count h)
-        ∙ ap (λ b. first_given (19 if not b ∷ [])) e
-
     pub no_window : every is_window (windows_of d) ≡ false → best_day d ≡ record { refusal = 19; slots = replicate most_jobs 0 }
-    unfolding best_day_if first_given ◌if◌
-    no_window e = by_rows 19 (rows_few false e)
+    unfolding best_day_if
+    no_window e = by_rows 19 (rows_no_window h e)
 
     pub accepted : every is_window (windows_of d) ≡ true → best_day d ≡ record { refusal = 0; slots = layout (windows_of d) (chosen (windows_of d)) }
-    unfolding best_day_if first_given ◌if◌
-    accepted e = by_rows 0 (rows_few true e)
+    unfolding best_day_if
+    accepted e = by_rows 0 (rows_none h e)

@@ -31,6 +31,7 @@ impl<'a> TryFrom<&'a Jobs> for Listed<'a> {
     // The list, or why it is refused.
     ghost try_from_gives = { λ d r. (refusal_number r ≡ first_given (best_day_rows d.now)) × IfOk r (λ l. l.windows.now ≡ windows_of d.now) };
 
+    #[tactic(auto, using(crate::proofs::Answering::rows_many, crate::proofs::Answering::rows_no_window, crate::proofs::Answering::rows_none), unfolding(matching::specs::Windows::windows_of))]
     fn try_from(d: &'a Jobs) -> Result<Self, Refusal> {
         if Jobs::MOST < d.count {
             return Err(Refusal::TooManyJobs);

@@ -1,10 +1,11 @@
 -- The closings on a page: how many, and each by its place.
 use mathlib.Core.Path.{◌≡◌, ap, ◌∙◌}
-use mathlib.Core.List.{[], ◌∷◌, ◌++◌}
+use mathlib.Core.List.{[], ◌∷◌, ◌++◌, map}
 use Prim.Native.Nat.{ℕ, suc, ◌<◌, min}
 use native.Mathlib.Omega.{arith}
 use lib.ListN.{length, get_or, take, length-map, length-take, get_or-map}
 use lib.Seq.{get_or-take, take-suc}
+use Rattle.lists.proofs.Filling.{take_least}
 use Rattle.board.specs.Held.{slot_number}
 use Rattle.lines.specs.Sheet.{Figures}
 use Rattle.page.specs.declared.Figures.{Figures as FiguresHeld}
@@ -19,6 +20,11 @@ module _ (p : Page) where
   pub closings_counted : length (page_of p) ≡ min p.count (length p.closings)
   unfolding page_of
   closings_counted = length-map (take p.count p.closings) figures_held ∙ length-take p.count p.closings
+
+  -- they are the first ones held, if as many as there are on the page
+  pub closings_first : (n : ℕ) → n ≡ length (page_of p) → map figures_held (take n p.closings) ≡ page_of p
+  unfolding page_of
+  closings_first n e = ap (map figures_held) (take_least n p.count p.closings (e ∙ closings_counted))
 
   -- the one at a place
   pub closing_at : (i : ℕ) → i < length (page_of p) → get_or (page_of p) i (figures_held no_figures) ≡ figures_held (get_or p.closings i no_figures)

@@ -13,7 +13,7 @@ use page::{Figures, HandedOver, Page};
 pub extern "C" fn oven_page_new() -> Page
     ensures { result ≡ new_page }
 {
-    page::new_page()
+    Page::new()
 }
 
 #[unsafe(no_mangle)]
@@ -28,7 +28,7 @@ pub extern "C" fn oven_page_hand_over(p: Page, closing: Figures) -> HandedOver
 pub extern "C" fn oven_page_full(p: Page) -> bool
     ensures { result ≡ is_full (page_of p) }
 {
-    page::is_full(p)
+    p.is_full()
 }
 
 // Prints the page at the start of the buffer; how many bytes it has, or 0 where there is no room for it.
@@ -37,5 +37,5 @@ pub extern "C" fn oven_page_print(p: Page, out: &mut [u8]) -> usize
     ensures { let fits = page_fits 0 (length out.old) in
         PutIf fits page_length (page (page_of p)) out.old 0 result out.new }
 {
-    sheet::print_page(p, out, 0)
+    sheet::print_page(&p, out, 0)
 }

@@ -2,7 +2,7 @@
 use Rattle.std.specs.Prelude.{◌≡◌, ℕ}
 use Rattle.lines.specs.Printers.{Program}
 use Rattle.status.specs.Status.{status}
-use Rattle.running.specs.declared.run.Outcome.{Outcome}
+use Rattle.status.specs.declared.Outcome.{Outcome}
 use Rattle.running.specs.Runs.{Ran}
 
 -- the status of a program's run

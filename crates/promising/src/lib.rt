@@ -3,43 +3,46 @@
 
 ghost use Rattle.std.specs.Prelude.{◌≡◌};
 ghost use Rattle.board.specs.Promise.{promised_refused, promised};
-ghost use Rattle.promising.specs.Inner.Seen.{PromisedOf};
+ghost use Rattle.board.specs.Refusals.{number_of};
+ghost use Rattle.packing.specs.Inner.Packed.{board_of};
+ghost use Rattle.promising.specs.Inner.Seen.{promised_seen, promised_as};
 
-use board::{Board, Laxity, Promised};
-use packing::Head;
+use board::{Board, Laxity, Promised, Refusal};
+use packing::Packed;
 
-// The answer of a refused call.
-fn refused(number: u8) -> Promised
-    ensures { result ≡ promised_refused number }
+// What can be promised beside the jobs that are seen of the board that arrays hold, sound or not: the least laxity, if there is one. On a sound board these
+// are all.
+pub fn promise_packed(b: &Packed) -> Result<Option<Laxity>, Refusal>
+    ensures { promised_as result ≡ promised_seen (board_of b.now) }
 {
-    Promised {
-        refusal: number,
-        laxity: Laxity(0),
+    if b.head.slot.0 == Board::LAST_SLOT + 1 {
+        return Err(Refusal::BookEnded);
     }
+    Ok(search::promise(b))
 }
 
-// What can be promised beside the jobs that are seen of the board that arrays hold, sound or not. On a sound board these are all.
-pub fn promise_packed(head: Head, keys: &[u32; Board::PLACES]) -> Promised
-    ensures { PromisedOf head keys.now result }
+// The answer of a refused call.
+fn refused(refusal: Refusal) -> Promised
+    ensures { result ≡ promised_refused (number_of refusal) }
 {
-    if head.slot.0 == Board::LAST_SLOT + 1 {
-        return refused(3);
+    Promised {
+        refusal: refusal.number(),
+        laxity: Laxity(0),
     }
-    let laxity = search::promise(head, keys);
-    Promised { refusal: 0, laxity }
 }
 
 // What can be promised: the least laxity from 1 to the longest such that some plan bakes one job more of it and all on the board, 0 for none.
 pub fn promise(b: Board) -> Promised
     ensures { result ≡ promised b }
 {
-    if soundness::is_sound(b) {
-        let mut keys = [0u32; Board::PLACES];
-        let mut tickets = [0u32; Board::PLACES];
-        let mut admitted = [0u32; Board::PLACES];
-        let head = packing::unpack(b, &mut keys, &mut tickets, &mut admitted);
-        promise_packed(head, &keys)
-    } else {
-        refused(2)
+    if !soundness::is_sound(b) {
+        return refused(Refusal::NotSound);
+    }
+    match promise_packed(&packing::unpack(&b)) {
+        Ok(laxity) => Promised {
+            refusal: 0,
+            laxity: laxity.unwrap_or(Laxity(0)),
+        },
+        Err(refusal) => refused(refusal),
     }
 }

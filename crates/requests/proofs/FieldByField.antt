@@ -22,11 +22,11 @@ use Rattle.requests.proofs.Results.{row_given, row_not_given}
 
 -- what a field's answer says of it
 module _ (k : Kind) (f : Bytes) where
-  bad_says : (m : ℕ) → (m, none) ≡ field_read k f → (readable_as k f ≡ false) × (m ≡ 14)
+  pub bad_says : (m : ℕ) → (m, none) ≡ field_read k f → (readable_as k f ≡ false) × (m ≡ 14)
   unfolding field_read
   bad_says m e = let s = row_given 13 _ (value_as k f) m e in (not-true (readable_as k f) s.0, s.1)
 
-  good_says : (v : ReadAs k) → (0, some v) ≡ field_read k f → (readable_as k f ≡ true) × (value_as k f ≡ v)
+  pub good_says : (v : ReadAs k) → (0, some v) ≡ field_read k f → (readable_as k f ≡ true) × (value_as k f ≡ v)
   unfolding field_read
   good_says v e = let s = row_not_given 13 (not (readable_as k f)) (value_as k f) v e in (not-false (readable_as k f) s.0, s.1)
 

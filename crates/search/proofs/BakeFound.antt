@@ -11,8 +11,8 @@ use Rattle.rule.specs.Job.{Job}
 use Rattle.rule.specs.Grade.{starting}
 use Rattle.rule.specs.Tight.{tight}
 use Rattle.rule.specs.Descent.{no_regret_after, no_regret}
-use Rattle.rule.specs.Shortfall.{smallest_excess, below_zero, shortfall}
-use Rattle.rule.specs.Bake.{soonest, baked, ticket_of, grade_of}
+use Rattle.rule.specs.Shortfall.{below_zero, shortfall}
+use Rattle.rule.specs.Bake.{soonest, baked}
 use Rattle.board.specs.Limits.{longest_laxity, last_slot, deepest}
 use Rattle.board.specs.Held.{slot_of, slot_number}
 use Rattle.packing.specs.declared.Packed.{Packed}

@@ -1,5 +1,5 @@
 -- The excess of a laxity as the code has it: a difference of two numbers that fit an i32.
-use Rattle.std.proofs.Common.{◌≡◌, ℕ, ◌^◌, ◌<◌, pos, ◌-ℤ◌, to_z, of_z, w32, FitsSigned, rules, ap₂, ◌∙◌, arith}
+use Rattle.std.proofs.Common.{◌≡◌, ℕ, ◌^◌, ◌<◌, pos, ◌-ℤ◌, to_z, of_z, w32, FitsSigned, ap₂, arith}
 use Rattle.std.proofs.lemmas.Int.{ints}
 use mir.Facts.{to_z-of_z}
 use Rattle.smallest.proofs.Signed.{signed}

@@ -1,18 +1,12 @@
 -- The shortfall of all jobs: with no bits the tight laxity is that of all, and so is its excess.
-use mathlib.Core.Path.{◌≡◌, refl, sym, ap, ◌∙◌, subst}
+use mathlib.Core.Path.{◌≡◌, refl, sym, ap, ◌∙◌}
 use mathlib.Core.List.{List, [], ◌∷◌, Memᴰ}
-use mathlib.Core.Option.{some}
 use Prim.Native.Nat.{ℕ, ◌-◌}
 use native.Mathlib.Omega.{arith}
-use borrow.Author.Tests.{eq-eqb, ne_eqb}
 use Rattle.rule.specs.Job.{Job}
 use Rattle.rule.specs.Grade.{bits, starting}
-use Rattle.rule.specs.Tight.{laxities, excess, tight_laxity}
 use Rattle.rule.specs.Shortfall.{smallest_excess, below_zero, shortfall}
-use Rattle.rule.proofs.Tight.Laxity.{tight_laxity_is}
 use Rattle.rule.proofs.NoRegret.ByBit.{starting_none}
-use Rattle.lists.specs.Select.{select}
-use Rattle.lists.specs.Least.{least}
 use Rattle.std.specs.Prelude.{Option, is_some, true, false}
 use Rattle.smallest.specs.declared.Best.{Best}
 use Rattle.search.specs.Inner.Counts.{CountsOf}

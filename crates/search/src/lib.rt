@@ -57,7 +57,11 @@ fn choose(b: &Packed, counts: &[u16; CELLS], all: Option<Best>) -> Option<Chosen
     let laxity = soonest::least_laxity(counts, grade)?;
     let last = Slot(b.head.slot.0 + laxity.0 - 1);
     let ticket = smallest::lowest_ticket(b, packing::key(last, grade));
-    Some(Chosen { ticket, grade, last })
+    Some(Chosen {
+        ticket,
+        grade,
+        last,
+    })
 }
 
 // The job that the slot bakes of the jobs seen, with their shortfall, which is by the smallest excess of all jobs, and their counts.
@@ -68,7 +72,11 @@ pub fn bake(b: &Packed) -> Baked
     let all = tight::tight(&counts);
     let job = choose(b, &counts, all);
     let shortfall = smallest::shortfall_of(all);
-    Baked { job, shortfall, counts }
+    Baked {
+        job,
+        shortfall,
+        counts,
+    }
 }
 
 // What can still be promised: the least laxity that one job more can have and be baked with all jobs seen, if there is one.

@@ -3,14 +3,13 @@ use mathlib.Core.Path.{◌≡◌, refl, ap, sym, ◌∙◌}
 use mathlib.Core.List.{List, [], ◌∷◌, ◌++◌, map, flatten, append-nil, append_assoc}
 use Prim.Native.Nat.{ℕ, zero, suc, ◌-◌, ◌≤◌, ◌<◌}
 use native.Mathlib.Omega.{arith}
-use lib.ListN.{length, get_or, drop, replicate, length-map, length-append, length-replicate, drop_of_length-le, get_or-eq_default}
+use lib.ListN.{length, get_or, drop, replicate, length-map, length-append, length-replicate, drop_of_length-le, get_or-eq_default, get_or-map}
 use lib.Seq.{drop-cons}
 use Rattle.lines.specs.Bytes.{Bytes}
 use Rattle.lines.specs.Sheet.{Figures, page_slots, slot_line, blank_line, heading, totals_line, page_lines, page}
-use Rattle.page.specs.declared.Page.{Page}
-use Rattle.page.specs.Pages.{figures_held, page_of}
+use Rattle.page.specs.declared.Figures.{Figures as FiguresHeld}
+use Rattle.page.specs.Pages.{figures_held}
 use Rattle.sheet.specs.Inner.Lines.{slot_lines}
-use Rattle.page.proofs.OnPage.{no_figures, closing_at}
 
 -- an element of a list mapped, whatever stands for elements past the ends
 getD_map_in : {A B : Type 0} (f : A → B) (l : List A) (i : ℕ) (d : A) (e : B) → i < length l → get_or (map f l) i e ≡ f (get_or l i d)
@@ -31,13 +30,15 @@ unfolding flatten
 flatten_append [] l = refl
 flatten_append (a ∷ k) l = ap (λ (r : List _). a ++ r) (flatten_append k l) ∙ sym (append_assoc a (flatten k) (flatten l))
 
-module _ (p : Page) (i : ℕ) where
+module _ (l : List FiguresHeld) (i : ℕ) where
   -- the line at a place with a closing, and at one without
-  pub closing_line : i < length (page_of p) → get_or (map slot_line (page_of p)) i blank_line ≡ slot_line (figures_held (get_or p.closings i no_figures))
-  closing_line h = getD_map_in slot_line (page_of p) i (figures_held no_figures) blank_line h ∙ ap slot_line (closing_at p i h)
+  pub closing_line : (d : FiguresHeld) → i < length l → get_or (map slot_line (map figures_held l)) i blank_line ≡ slot_line (figures_held (get_or l i d))
+  closing_line d h =
+      let h' : i < length (map figures_held l) = rw length-map h in
+      getD_map_in slot_line (map figures_held l) i (figures_held d) blank_line h' ∙ ap slot_line (get_or-map figures_held l i d)
 
-  pub no_closing_line : length (page_of p) ≤ i → get_or (map slot_line (page_of p)) i blank_line ≡ blank_line
-  no_closing_line h = get_or-eq_default (map slot_line (page_of p)) blank_line (rw length-map h)
+  pub no_closing_line : length l ≤ i → get_or (map slot_line (map figures_held l)) i blank_line ≡ blank_line
+  no_closing_line h = get_or-eq_default (map slot_line (map figures_held l)) blank_line (rw (length-map, length-map) h)
 
 module _ (fs : List Figures) where
   line_count : length fs ≤ page_slots → length (slot_lines fs) ≡ page_slots

@@ -1,5 +1,5 @@
 // The print of the sheet's page, at its place in a buffer that the caller lends.
-#![tactic(auto)]
+#![tactic(auto, unfolding(crate::specs::Room::page_fits, crate::specs::Room::page_length, crate::specs::Inner::Lines::line_length, lines::specs::Sheet::page_slots, lines::specs::Sheet::line_columns))]
 
 ghost use Rattle.std.specs.Prelude.{◌≡◌, length};
 ghost use Rattle.lines.specs.Sheet.{line_columns, page};
@@ -27,9 +27,9 @@ pub const GIVEN_UP_ENDS: usize = COLUMNS;
 pub const PAGE_LENGTH: usize = (1 + Page::SLOTS + 1) * (COLUMNS + 1);
 
 // Prints the page at `at`; where it ends. Where the buffer has no room for it nothing is printed, and that is `at`.
-pub fn print_page(p: Page, out: &mut [u8], at: usize) -> usize
+pub fn print_page(p: &Page, out: &mut [u8], at: usize) -> usize
     ensures { let fits = page_fits at (length out.old) in
-        PutIf fits page_length (page (page_of p)) out.old at result out.new }
+        PutIf fits page_length (page (page_of p.now)) out.old at result out.new }
 {
     if !buffer::room_for(PAGE_LENGTH, at, out.len()) {
         return at;

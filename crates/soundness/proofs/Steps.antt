@@ -5,8 +5,9 @@ use mathlib.Core.List.{List, []}
 use Prim.Native.Nat.{ℕ, suc, ◌+◌, ◌^◌, ◌≤◌, ◌<◌}
 use native.Mathlib.Numerals.{add-one}
 use lib.ListN.{length, get_or, drop, drop_of_length-le}
-use lib.Seq.{drop-cons, slice, slice-cons, slice_empty}
+use lib.Seq.{drop-cons}
 use Rattle.lists.specs.Select.{every}
+use Rattle.board.specs.declared.Place.{Place}
 use Rattle.board.specs.declared.Board.{Board}
 use Rattle.board.specs.Held.{slot_of, blank}
 use Rattle.soundness.specs.declared.Seen.{Seen}
@@ -23,13 +24,13 @@ module _ {A : Type 0} (p : A → Bool) (l : List A) (i : ℕ) where
   unfolding every
   every_done g h = rw (drop_of_length-le l h) (sym (and-true g))
 
--- the next job goes into what is seen; g is the number of grades, as the code has it
-pub walk_step : (b : Board) (s r : Seen) (g i : ℕ) → g ≡ 2 ^ b.depth → i < b.count → b.count ≤ length b.places
-    → r ≡ seen_with (slot_of b) g s (get_or b.places i blank)
-    → all_well b r (slice (i + 1) b.count b.places) ≡ all_well b s (slice i b.count b.places)
-unfolding all_well
-walk_step b s r g i e h f q = rw (q, e, add-one, slice-cons i b.count b.places blank)
+module _ (b : Board) (s : Seen) (l : List Place) (i : ℕ) where
+  -- the next job goes into what is seen; g is the number of grades, as the code has it
+  pub walk_step : (r : Seen) (g : ℕ) → g ≡ 2 ^ b.depth → i < length l → r ≡ seen_with (slot_of b) g s (get_or l i blank)
+      → all_well b r (drop (i + 1) l) ≡ all_well b s (drop i l)
+  unfolding all_well
+  walk_step r g e h q = rw (q, e, add-one, drop-cons l i blank)
 
--- no job is left
-pub walk_done : (b : Board) (s : Seen) (i : ℕ) → i ≡ b.count → all_well b s [] ≡ all_well b s (slice i b.count b.places)
-walk_done b s i e = rw (e, slice_empty)
+  -- no job is left
+  pub walk_done : length l ≤ i → all_well b s [] ≡ all_well b s (drop i l)
+  walk_done h = rw (drop_of_length-le l h)

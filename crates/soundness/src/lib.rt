@@ -3,22 +3,13 @@
 #![tactic(auto)]
 
 ghost use Rattle.std.specs.Prelude.{◌≡◌, ◌≤◌};
+ghost use Rattle.lists.specs.Select.{every};
 ghost use Rattle.board.specs.Limits.{places_held, deepest};
 ghost use Rattle.board.specs.Held.{used};
-ghost use Rattle.board.specs.Sound.{is_blank, blank_past_count, sound};
+ghost use Rattle.board.specs.Sound.{is_blank, sound};
 ghost use Rattle.soundness.specs.Inner.Walk.{in_limits, nothing_seen, sharing_with, is_short, seen_with, all_well};
 
 use board::{Board, Place, Slot};
-
-// What a walk has seen of the jobs so far: whether all is well, the last job's ticket and admitted slot, and how many
-// jobs in a row, the last one included, share that slot.
-#[derive(Clone, Copy)]
-struct Seen {
-    well: bool,
-    ticket: u32,
-    admitted: Slot,
-    sharing: usize,
-}
 
 // The depth, the slot and the count are in their limits.
 pub fn in_limits(depth: u8, slot: Slot, count: usize) -> bool
@@ -37,58 +28,75 @@ fn is_short(x: Place) -> bool
     (x.last.0 as u64) < (x.admitted.0 as u64) + (Board::LONGEST_LAXITY as u64)
 }
 
-// How many jobs in a row, the next one included, share its admitted slot.
-fn sharing_with(s: Seen, x: Place) -> usize
-    requires { s.sharing ≤ places_held }
-    ensures { result ≡ sharing_with s x }
-{
-    if x.admitted.0 == s.admitted.0 {
-        s.sharing + 1
-    } else {
-        1
-    }
+// What a walk has seen of the jobs so far: whether all is well, the last job's ticket and admitted slot, and how many
+// jobs in a row, the last one included, share that slot.
+#[derive(Clone, Copy)]
+struct Seen {
+    well: bool,
+    ticket: u32,
+    admitted: Slot,
+    sharing: usize,
 }
 
-// The next job is looked at.
-fn seen_with(slot: Slot, grades: u32, s: Seen, x: Place) -> Seen
-    requires { s.sharing ≤ places_held }
-    ensures { result ≡ seen_with slot.0 grades s x }
-{
-    let admitted = x.admitted;
-    let sharing = sharing_with(s, x);
-    let well = s.well
-        & (s.ticket < x.ticket)
-        & (s.admitted.0 <= x.admitted.0)
-        & (sharing <= Board::MOST_IN_SLOT)
-        & (x.admitted.0 <= slot.0)
-        & (slot.0 <= x.last.0)
-        & is_short(x)
-        & ((x.grade as u32) < grades);
-    Seen {
-        well,
-        ticket: x.ticket,
-        admitted,
-        sharing,
+impl Seen {
+    // Before the first job.
+    #[tactic(auto, unfolding(crate::specs::Inner::Walk::nothing_seen))]
+    fn nothing() -> Seen
+        ensures { result ≡ nothing_seen }
+    {
+        Seen {
+            well: true,
+            ticket: 0,
+            admitted: Slot(1),
+            sharing: 0,
+        }
+    }
+
+    // How many jobs in a row, the next one included, share its admitted slot.
+    fn sharing_with(self, x: Place) -> usize
+        requires { self.sharing ≤ places_held }
+        ensures { result ≡ sharing_with self x }
+    {
+        if x.admitted.0 == self.admitted.0 {
+            self.sharing + 1
+        } else {
+            1
+        }
+    }
+
+    // With the next job.
+    fn with(self, slot: Slot, grades: u32, x: Place) -> Seen
+        requires { self.sharing ≤ places_held }
+        ensures { result ≡ seen_with slot.0 grades self x }
+    {
+        let sharing = self.sharing_with(x);
+        let well = self.well
+            & (self.ticket < x.ticket)
+            & (self.admitted.0 <= x.admitted.0)
+            & (sharing <= Board::MOST_IN_SLOT)
+            & (x.admitted.0 <= slot.0)
+            & (slot.0 <= x.last.0)
+            & is_short(x)
+            & ((x.grade as u32) < grades);
+        Seen {
+            well,
+            ticket: x.ticket,
+            admitted: x.admitted,
+            sharing,
+        }
     }
 }
 
 // The jobs of a board that is in its limits are sound.
-fn jobs_sound(b: Board) -> bool
-    requires { (b.depth ≤ deepest) × (b.count ≤ places_held) }
-    ensures { result ≡ all_well b nothing_seen (used b) }
+#[tactic(auto, unfolding(board::specs::Limits::places_held))]
+fn jobs_sound(b: &Board) -> bool
+    requires { (b.now.depth ≤ deepest) × (b.now.count ≤ places_held) }
+    ensures { result ≡ all_well b.now nothing_seen (used b.now) }
 {
-    let n = b.count;
-    let slot = b.slot;
     let grades = Board::grade_count(b.depth);
-    let mut s = Seen {
-        well: true,
-        ticket: 0,
-        admitted: Slot(1),
-        sharing: 0,
-    };
-    for i in 0..n {
-        let x = b.places[i];
-        s = seen_with(slot, grades, s, x);
+    let mut s = Seen::nothing();
+    for x in &b.places[..b.count] {
+        s = s.with(b.slot, grades, *x);
     }
     s.well & (s.ticket <= b.highest)
 }
@@ -100,26 +108,24 @@ fn is_blank(x: Place) -> bool
     (x.ticket == 0) & (x.admitted.0 == 0) & (x.last.0 == 0) & (x.grade == 0)
 }
 
-// The places past the count are blank.
-fn blank_past(b: Board) -> bool
-    ensures { result ≡ blank_past_count b }
+// The places are blank.
+fn all_blank(places: &[Place]) -> bool
+    ensures { result ≡ every is_blank places.now }
 {
-    let n = b.count;
     let mut blank = true;
-    for i in n..Board::PLACES {
-        let past = b.places[i];
-        blank = blank & is_blank(past);
+    for x in places {
+        blank &= is_blank(*x);
     }
     blank
 }
 
 // Whether a board is sound: 01's conditions, no more and no less.
+#[tactic(auto, using(crate::proofs::Parts::within), unfolding(board::specs::Limits::places_held))]
 pub fn is_sound(b: Board) -> bool
     ensures { result ≡ sound b }
 {
-    let slot = b.slot;
-    if !in_limits(b.depth, slot, b.count) {
+    if !in_limits(b.depth, b.slot, b.count) {
         return false;
     }
-    jobs_sound(b) & blank_past(b)
+    jobs_sound(&b) & all_blank(&b.places[b.count..])
 }

@@ -4,6 +4,7 @@ use mathlib.Core.List.{List, [], ◌∷◌, ◌++◌, append-nil, append_assoc}
 use mathlib.Core.Option.{none, some}
 use Prim.Native.Nat.{ℕ, zero, suc, ◌+◌, ◌-◌, ◌≤◌, ◌<◌, min}
 use native.Mathlib.Omega.{arith}
+use Rattle.std.specs.Prelude.{Some, None}
 use lib.ListN.{length, take, drop, replicate, length-replicate, drop_of_length-le}
 use lib.Seq.{take_all, take_at, take-append-add}
 use Rattle.lists.specs.Before.{before}
@@ -13,10 +14,9 @@ use Rattle.lines.proofs.Cutting.{lines_none}
 use Rattle.matching.specs.declared.Window.{Window}
 use Rattle.matching.specs.declared.Jobs.{Jobs}
 use Rattle.matching.specs.Windows.{most_jobs}
-use Rattle.worklist.specs.declared.Refused.{Refused}
 use Rattle.worklist.specs.Lines.{window_rows, window_in}
 use Rattle.worklist.specs.Refusals.{first_refused, read_lines}
-use Rattle.worklist.specs.Inner.Collecting.{refusal_if, as_refusal, with_window, Gathered, CollectedFrom}
+use Rattle.worklist.specs.Inner.Collecting.{with_window, Gathered, CollectedFrom}
 use Rattle.worklist.proofs.NextLine.{line_there}
 use Rattle.worklist.proofs.Refusing.{refused_behind, refused_past, refused_here}
 use Rattle.worklist.proofs.Gathering.{none_gathered, places_kept, one_more}
@@ -65,37 +65,32 @@ module _ (input : Bytes) (at : ℕ) (d : Jobs) (a : Along input at d) (h : at < 
       ∙ ap (λ m. take m (a.done ++ (line ∷ rest))) k
       ∙ take-append-add a.done (line ∷ rest) (suc n)
 
-  refused_line : (n : ℕ) → first_given (window_rows line) ≡ n → (n ≡ 0 → ⊥) → (i : ℕ) → i ≡ d.count + 1
-      → refusal_if n i ≡ first_refused window_rows 1 (read_lines (lines input))
-  unfolding refusal_if
-  refused_line zero q z i k = absurd (z refl)
-  refused_line (suc n) q z i k =
-      let m : i ≡ 1 + length a.done = omega (arith, a.gathered.count) in
-      ap (λ j. some (record { line = j; number = suc n })) m
-      ∙ sym (ap (first_refused window_rows 1) first_lines
-      ∙ refused_behind window_rows 1 a.done (line ∷ take (most_jobs - length a.done) rest) a.clean
-      ∙ refused_here window_rows (1 + length a.done) n line (take (most_jobs - length a.done) rest) q)
-
-  pub line_refused : (r : Refused) → r.number ≡ first_given (window_rows line) → (r.number ≡ 0 → ⊥) → r.line ≡ d.count + 1
-      → CollectedFrom input (record { refused = r; jobs = d })
-  unfolding as_refusal
-  line_refused r q z k =
-      record { refused = refused_line r.number (sym q) z r.line k; gathered = λ g. absurd (z g) }
+  pub line_refused : (n : ℕ) → first_given (window_rows line) ≡ n → 0 < n
+      → CollectedFrom input (record { refused = Some (record { line = d.count + 1; number = n }); jobs = d })
+  line_refused zero q z = absurd (omega arith)
+  line_refused (suc n) q z =
+      let m : d.count + 1 ≡ 1 + length a.done = omega (arith, a.gathered.count) in
+      record {
+        refused = ap (λ j. some (record { line = j; number = suc n })) m
+            ∙ sym (ap (first_refused window_rows 1) first_lines
+            ∙ refused_behind window_rows 1 a.done (line ∷ take (most_jobs - length a.done) rest) a.clean
+            ∙ refused_here window_rows (1 + length a.done) n line (take (most_jobs - length a.done) rest) q);
+        gathered = λ g. cc;
+      }
 
 -- no bytes are left, or there is one line too many
 module _ (input : Bytes) (at : ℕ) (d : Jobs) (a : Along input at d) where
-  finish : read_lines (lines input) ≡ a.done → CollectedFrom input (record { refused = record { line = 0; number = 0 }; jobs = d })
-  unfolding as_refusal refusal_if
+  finish : read_lines (lines input) ≡ a.done → CollectedFrom input (record { refused = None; jobs = d })
   finish e =
       record { refused = sym (ap (first_refused window_rows 1) e ∙ a.clean); gathered = λ g. rw e a.gathered }
 
-  pub all_done : length input ≤ at → CollectedFrom input (record { refused = record { line = 0; number = 0 }; jobs = d })
+  pub all_done : length input ≤ at → CollectedFrom input (record { refused = None; jobs = d })
   unfolding read_lines
   all_done h =
       let whole : lines input ≡ a.done = a.split ∙ ap (λ l. a.done ++ lines l) (drop_of_length-le input h) ∙ ap (a.done ++◌) lines_none ∙ append-nil a.done in
       finish (ap (take (suc most_jobs)) whole ∙ take_all (suc most_jobs) a.done a.gathered.few)
 
-  pub one_too_many : most_jobs < d.count → CollectedFrom input (record { refused = record { line = 0; number = 0 }; jobs = d })
+  pub one_too_many : most_jobs < d.count → CollectedFrom input (record { refused = None; jobs = d })
   unfolding read_lines
   one_too_many h =
       finish

@@ -15,12 +15,11 @@ use Rattle.lines.specs.Bytes.{Bytes, line_end, lines}
 use Rattle.lines.specs.Reading.{longest_line}
 use Rattle.matching.specs.Windows.{most_jobs}
 use Rattle.worklist.specs.declared.Refused.{Refused}
-use Rattle.worklist.specs.declared.WindowRead.{WindowRead}
 use Rattle.worklist.specs.Lines.{window_rows}
 use Rattle.worklist.specs.Refusals.{first_refused, read_lines, or_else, call_refused, refused_in}
 use Rattle.worklist.specs.Output.{jobs_in, printed_list, list_output}
 use Rattle.worklist.specs.Statements.{most_read}
-use Rattle.worklist.proofs.Reading.{number_read, row_11}
+use Rattle.worklist.proofs.Reading.{row_11, row_there}
 use Rattle.worklist.proofs.NextLine.{next_line}
 use Rattle.worklist.proofs.Refusing.{refused_past, refused_here}
 use Rattle.worklist.proofs.ByCall.{many}
@@ -30,7 +29,7 @@ abbrev most : ℕ
 most = suc longest_line
 
 long_refused : (l : Bytes) → longest_line < length l → first_given (window_rows l) ≡ 11
-long_refused l h = sym (number_read l) ∙ ap (λ (w : WindowRead). w.number) (sym (row_11 l h))
+long_refused l h = (row_there l 11 (row_11 l h)).0
 
 -- of two lists of lines, the first k of each from the i-th line on: the same line of both is refused, or none is and both have so many
 pub record SameRefused (k i : ℕ) (A B : List Bytes) : Type 0 where

@@ -3,34 +3,28 @@
 
 ghost use Rattle.std.specs.Prelude.{◌≡◌, ◌+◌, ◌≤◌, min};
 ghost use Rattle.matching.specs.Windows.{most_jobs, no_window, is_window as is_window_of, windows_of};
-ghost use Rattle.worklist.specs.Lines.{window_read};
+ghost use Rattle.worklist.specs.Lines.{window_result, window_read};
 ghost use Rattle.worklist.specs.Refusals.{or_else};
 ghost use Rattle.worklist.specs.Statements.{most_read, Worklist};
 ghost use Rattle.worklist.specs.Inner.Collecting.{as_refusal, with_window, CollectedFrom, passing, refused_by_call};
 
-use board::Slot;
-use fields::numbers;
-use fields::numbers::Field;
+use board::{Refusal, Slot};
+use fields::numbers::number_at;
 use matching::{Jobs, Window};
 
-// A line read: the number of its refusal, or 0, and its window.
-#[derive(Clone, Copy)]
-pub struct WindowRead {
-    pub number: u8,
-    pub window: Window,
-}
-
-// A line that is refused, counted from 1, and its number; number 0 for none.
+// A line that is refused, counted from 1, and its number.
 #[derive(Clone, Copy)]
 pub struct Refused {
     pub line: u64,
+    // Not a `Refusal`: the C interface. Of the call's refusals it is the number that a `BestDay` has.
     pub number: u8,
 }
 
-// The first line that is refused, and the jobs of the lines before it.
+// The first line that is refused, if there is one, and the jobs of the lines before it.
+// Not a `Result`, which is no plainer: `refusal` takes both, and the call is asked of the jobs in either case.
 #[derive(Clone, Copy)]
 pub struct Collected {
-    pub refused: Refused,
+    pub refused: Option<Refused>,
     pub jobs: Jobs,
 }
 
@@ -59,56 +53,37 @@ fn blank() -> Window
     }
 }
 
-// A line that is refused with this number.
-fn refused_with(number: u8) -> WindowRead
-    ensures { result ≡ record { number = number; window = no_window } }
-{
-    let window = blank();
-    WindowRead { number, window }
-}
-
-// Reads a line: its window, or the number of its refusal.
-pub fn read_window(line: &[u8]) -> WindowRead
-    ensures { result ≡ window_read line.now }
+// Reads a line: its window, or the row that refuses it.
+pub fn read_window(line: &[u8]) -> Result<Window, Refusal>
+    ensures { window_result result ≡ window_read line.now }
 {
     if reading::LONGEST_LINE < line.len() {
-        return refused_with(11);
+        return Err(Refusal::LineTooLong);
     }
-    let a = numbers::number_at(line, 0);
-    let b = numbers::number_at(line, a.end + 1);
+    let a = number_at(line, 0);
+    let b = number_at(line, a.end + 1);
     if b.end != line.len() {
-        return refused_with(13);
+        return Err(Refusal::FieldCount);
     }
-    let number = a.number;
-    let Field::Number(first) = number else {
-        return refused_with(14);
-    };
-    let number = b.number;
-    let Field::Number(last) = number else {
-        return refused_with(14);
-    };
-    WindowRead {
-        number: 0,
-        window: Window {
-            first: Slot(first),
-            last: Slot(last),
-        },
-    }
+    let first = a.number?;
+    let last = b.number?;
+    Ok(Window {
+        first: Slot(first),
+        last: Slot(last),
+    })
 }
 
-// The jobs with one more window, while there is a place for it; of one too many only the count is kept.
-fn with_window(d: Jobs, w: Window) -> Jobs
-    ensures { result ≡ with_window d w }
+// Puts one more window to the jobs, while there is a place for it; of one too many only the count is kept.
+fn add_window(d: &mut Jobs, w: Window)
+    ensures { d.new ≡ with_window d.old w }
 {
     let at = d.count;
-    let mut more = d;
     if at < Jobs::MOST {
-        more.windows[at] = w;
-        more.count = at + 1;
-        return more;
+        d.windows[at] = w;
+        d.count = at + 1;
+    } else {
+        d.count = Jobs::MOST + 1;
     }
-    more.count = Jobs::MOST + 1;
-    more
 }
 
 // Where the next line begins behind one that ends at `to`: behind its line end, or at the end of the bytes.
@@ -127,20 +102,21 @@ pub fn collect(input: &[u8]) -> Collected
     let mut at: usize = 0;
     while at < input.len() && jobs.count <= Jobs::MOST {
         let to = lists::next_byte(input, at, b'\n');
-        let read = read_window(&input[at..to]);
-        if read.number != 0 {
-            let line = jobs.count as u64 + 1;
-            let refused = Refused {
-                line,
-                number: read.number,
-            };
-            return Collected { refused, jobs };
+        match read_window(&input[at..to]) {
+            Ok(window) => add_window(&mut jobs, window),
+            Err(row) => {
+                let line = jobs.count as u64 + 1;
+                let number = row.number();
+                let refused = Some(Refused { line, number });
+                return Collected { refused, jobs };
+            }
         }
-        jobs = with_window(jobs, read.window);
         at = behind(to, input.len());
     }
-    let refused = Refused { line: 0, number: 0 };
-    Collected { refused, jobs }
+    Collected {
+        refused: None,
+        jobs,
+    }
 }
 
 // How many jobs stand before the first without a window.
@@ -148,38 +124,31 @@ pub fn windows_first(d: Jobs) -> usize
     ensures { (result ≡ passing is_window_of (windows_of d)) × (result ≤ most_jobs) }
 {
     let n = lists::lesser(d.count, Jobs::MOST);
-    let mut i: usize = 0;
-    while i < n {
-        let w = d.windows[i];
-        if !hindsight::is_window(w) {
-            return i;
-        }
-        i += 1;
-    }
-    i
+    let first = d.windows[..n]
+        .iter()
+        .position(|w| !hindsight::is_window(*w));
+    first.unwrap_or(n)
 }
 
 // The line that is refused, with its number: the one found in reading, or else the one that the call's number names, where it has one.
-pub fn refusal(c: Collected, number: u8) -> Refused
+pub fn refusal(c: Collected, number: u8) -> Option<Refused>
     ensures { as_refusal result ≡ or_else (as_refusal c.refused) (refused_by_call number c.jobs) }
 {
-    let refused = c.refused;
-    if refused.number != 0 {
-        return refused;
+    if let Some(refused) = c.refused {
+        return Some(refused);
     }
     if number == 0 {
-        return refused;
+        return None;
     }
-    if number == 18 {
-        return Refused {
+    if number == Refusal::TooManyJobs.number() {
+        return Some(Refused {
             line: (Jobs::MOST + 1) as u64,
             number,
-        };
+        });
     }
-    let jobs = c.jobs;
-    let first = windows_first(jobs);
-    Refused {
+    let first = windows_first(c.jobs);
+    Some(Refused {
         line: first as u64 + 1,
         number,
-    }
+    })
 }

@@ -8,18 +8,18 @@ use Rattle.entries.proofs.closing.Goals as goal
 
 pub slice_bounds-close-end : goal.slice_bounds-close-end
 unfolding places_held
-slice_bounds-close-end c = sym (first_length c.lesser-n.result (omega (arith, c.lesser-n.ensures)))
+slice_bounds-close-end c = sym (first_length c.min-n.result (omega (arith, c.min-n.ensures)))
 
 pub slice_bounds-close-end-2 : goal.slice_bounds-close-end-2
 unfolding places_held
-slice_bounds-close-end-2 c = sym (first_length c.lesser-n.result (omega (arith, c.lesser-n.ensures)))
+slice_bounds-close-end-2 c = sym (first_length c.min-n.result (omega (arith, c.min-n.ensures)))
 
 pub slice_bounds-close-end-3 : goal.slice_bounds-close-end-3
 unfolding places_held
-slice_bounds-close-end-3 c = sym (first_length c.lesser-n.result (omega (arith, c.lesser-n.ensures)))
+slice_bounds-close-end-3 c = sym (first_length c.min-n.result (omega (arith, c.min-n.ensures)))
 
 pub returns : goal.returns
 unfolding places_held
 returns c =
     let a = c.args in
-    gathered a.b a.lent c.lesser-n.result c.lesser-n.ensures (lent_of c.close-answer.new.tickets c.close-answer.new.grades c.close-answer.new.slots) c.close-answer.result c.close-answer.auto.tickets c.close-answer.ensures
+    gathered a.b a.lent c.min-n.result c.min-n.ensures (lent_of c.close-answer.new.tickets c.close-answer.new.grades c.close-answer.new.slots) c.close-answer.result c.close-answer.auto.tickets c.close-answer.ensures

@@ -1,16 +1,16 @@
 -- An unsound board gets 2; a sound one goes on, in arrays that hold it as it is.
-use mathlib.Core.Path.{sym, ap, ◌∙◌}
-use Rattle.packing.proofs.OnSound.{packable_sound}
-use Rattle.promising.specs.Inner.Seen.{promised_seen}
-use Rattle.promising.proofs.OnSound.{promise_on_sound, promise_unsound}
+use Rattle.std.proofs.Common.{sym, ◌∙◌}
+use Rattle.promising.proofs.OnSound.{promise_unsound, promise_packed_sound, laxity_unwrapped}
 use Rattle.promising.proofs.promise.Goals as goal
 
-pub returns-then-is_sound : goal.returns-then-is_sound
-returns-then-is_sound c =
-    let b = c.args.b in
-    let s = sym c.is_sound.ensures ∙ c.if-is_sound.true in
-    c.promise_packed.ensures _ _ ∙ ap promised_seen (c.unpack-head.ensures ∙ packable_sound b s) ∙ promise_on_sound b s
+pub returns-then-not-is_sound : goal.returns-then-not-is_sound
+returns-then-not-is_sound c = promise_unsound c.args.b c.refused.result (sym c.is_sound.ensures ∙ c.if-not-is_sound.true) c.refused.ensures
 
-pub returns-else-is_sound : goal.returns-else-is_sound
-returns-else-is_sound c =
-    promise_unsound c.args.b c.refused.result (sym c.is_sound.ensures ∙ c.if-is_sound.false) c.refused.ensures
+pub returns-in-Ok : goal.returns-in-Ok
+returns-in-Ok c =
+    rw (c.unwrap_or.ensures, laxity_unwrapped)
+    (c.in-Ok.ensures ∙ promise_packed_sound c.args.b _ (sym c.is_sound.ensures ∙ c.if-not-is_sound.false) c.unpack.ensures)
+
+pub returns-in-Err : goal.returns-in-Err
+returns-in-Err c =
+    c.refused-in-Err.ensures ∙ c.in-Err.ensures ∙ promise_packed_sound c.args.b _ (sym c.is_sound.ensures ∙ c.if-not-is_sound.false) c.unpack.ensures

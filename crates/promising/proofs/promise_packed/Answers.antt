@@ -1,6 +1,5 @@
 -- Row 3, and then what the search finds.
-use mathlib.Core.Path.{ap, ◌∙◌}
-use borrow.Author.Tests.{eq-eqb, ne_eqb}
+use Rattle.std.proofs.Common.{ap, eq-eqb, ne_eqb}
 use Rattle.board.specs.Limits.{last_slot}
 use Rattle.board.specs.Rows.{◌if◌, first_given, promise_rows}
 use Rattle.board.specs.Promise.{promised_with}
@@ -8,10 +7,10 @@ use Rattle.packing.specs.Inner.Packed.{board_in}
 use Rattle.promising.specs.Inner.Seen.{promised_seen}
 use Rattle.promising.proofs.promise_packed.Goals as goal
 
-pub returns-then-head : goal.returns-then-head
+pub returns-then-b : goal.returns-then-b
 unfolding promised_seen board_in promise_rows first_given ◌if◌ promised_with last_slot
-returns-then-head c T A = c.refused.ensures ∙ simp (eq-eqb _ _ c.if-head.true)
+returns-then-b c = simp (eq-eqb _ _ c.if-b.true)
 
 pub returns : goal.returns
 unfolding promised_seen board_in promise_rows first_given ◌if◌ promised_with last_slot
-returns c T A = simp (ne_eqb _ _ c.if-head.false) (ap (promised_with 0) (c.promise-laxity.ensures T A))
+returns c = simp (ne_eqb _ _ c.if-b.false) (ap (promised_with 0) c.promise.ensures)

@@ -1,7 +1,7 @@
 -- The grade that the descent ends at has the no-regret set, and the soonest job of that grade is baked.
 use Rattle.std.proofs.Common.{subst, ap, arith}
 use lib.Pow.{pow_mono}
-use Rattle.board.specs.Limits.{deepest, last_slot, longest_laxity}
+use Rattle.board.specs.Limits.{last_slot, longest_laxity}
 use Rattle.packing.specs.Inner.Packed.{in_use}
 use Rattle.smallest.specs.Inner.Lowest.{LowestOf}
 use Rattle.search.specs.Inner.Answers.{laxity_in}

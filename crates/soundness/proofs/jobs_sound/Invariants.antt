@@ -1,13 +1,10 @@
+-- The walk from what was seen, along the jobs that are left, is the walk along all.
 use mathlib.Core.Path.{◌≡◌}
-use Prim.Native.Nat.{◌-◌, ◌≤◌}
-use lib.Seq.{slice}
+use Prim.Native.Nat.{◌≤◌}
+use lib.ListN.{drop}
 use Rattle.board.specs.Held.{used}
 use Rattle.soundness.specs.Inner.Walk.{nothing_seen, all_well}
 use Rattle.soundness.proofs.jobs_sound.Given as goal
 
-abbrev pub invariant-loop-i : goal.invariant-loop-i
-invariant-loop-i l =
-    (l.i ≤ l.b.count) × (l.s.sharing ≤ l.i) × (all_well l.b l.s (slice l.i l.b.count l.b.places) ≡ all_well l.b nothing_seen (used l.b))
-
-abbrev pub decreases-loop-i : goal.decreases-loop-i
-decreases-loop-i l = l.b.count - l.i
+abbrev pub invariant-loop-x : goal.invariant-loop-x
+invariant-loop-x l = (l.s.sharing ≤ l.x-index) × (all_well l.b l.s (drop l.x-index (used l.b)) ≡ all_well l.b nothing_seen (used l.b))

@@ -1,11 +1,11 @@
 -- Line by line, the lines done and the bytes left.
-use mathlib.Core.Path.{refl, sym, ap, ◌∙◌}
-use Prim.Native.Nat.{◌+◌, min}
+use mathlib.Core.Path.{refl, ap, ◌∙◌}
+use mathlib.Core.Option.{none}
+use Prim.Native.Nat.{ℕ, ◌+◌, min}
 use native.Mathlib.Omega.{arith}
 use lib.ListN.{length}
 use Rattle.lines.specs.Bytes.{line_end}
-use Rattle.worklist.specs.declared.WindowRead.{WindowRead}
-use Rattle.worklist.proofs.Reading.{number_read, window_there}
+use Rattle.worklist.proofs.Reading.{row_there, window_there}
 use Rattle.worklist.proofs.NextLine.{line_within}
 use Rattle.worklist.proofs.Collecting.{none_done, line_more, line_refused, all_done, one_too_many}
 use Rattle.worklist.proofs.collect.Goals as goal
@@ -19,17 +19,14 @@ slice_bounds-read_window-end c =
     let input = c.args.input.now in
     line_within input c.loop-at.at c.next_byte-to.result (min (c.next_byte-to.result + 1) (length input)) c.loop-at-test.true c.next_byte-to.ensures refl
 
-pub returns-then-read-ne0 : goal.returns-then-read-ne0
+pub returns-in-Err : goal.returns-in-Err
 unfolding line_end
-returns-then-read-ne0 c =
+returns-in-Err c =
     let input = c.args.input.now in
     let l = c.loop-at in
     let to = c.next_byte-to in
-    line_refused input l.at l.jobs l.invariant c.loop-at-test.true c.if-jobs-le-MOST.true to.result (min (to.result + 1) (length input)) to.ensures refl
-    (record { line = l.jobs.count + 1; number = c.read_window-read.result.number })
-    (ap (λ (w : WindowRead). w.number) c.read_window-read.ensures ∙ number_read _)
-    c.if-read-ne0.true
-    refl
+    let row = row_there _ _ (ap (λ (n : ℕ). (n, none)) c.number-number.ensures ∙ c.in-Err.ensures) in
+    line_refused input l.at l.jobs l.invariant c.loop-at-test.true c.if-jobs-le-MOST.true to.result (min (to.result + 1) (length input)) to.ensures refl _ row.0 row.1
 
 pub loop-at-preserved : goal.loop-at-preserved
 unfolding line_end
@@ -37,13 +34,9 @@ loop-at-preserved c =
     let input = c.args.input.now in
     let l = c.loop-at in
     let to = c.next_byte-to in
-    let read = c.read_window-read.ensures in
-    let none = c.if-read-ne0.false in
-    rw c.with_window-jobs.ensures
-    (line_more input l.at l.jobs l.invariant c.loop-at-test.true c.if-jobs-le-MOST.true to.result c.behind-at.result to.ensures c.behind-at.ensures
-    (sym (number_read _) ∙ ap (λ (w : WindowRead). w.number) (sym read) ∙ none)
-    c.read_window-read.result.window
-    (ap (λ (w : WindowRead). w.window) read ∙ window_there _ (ap (λ (w : WindowRead). w.number) (sym read) ∙ none)))
+    let window = window_there _ _ c.in-Ok.ensures in
+    rw c.add_window.ensures
+    (line_more input l.at l.jobs l.invariant c.loop-at-test.true c.if-jobs-le-MOST.true to.result c.behind-at.result to.ensures c.behind-at.ensures window.0 _ window.1)
 
 pub returns-else-jobs-le-MOST : goal.returns-else-jobs-le-MOST
 returns-else-jobs-le-MOST c = one_too_many _ _ _ c.loop-at.invariant c.if-jobs-le-MOST.false

@@ -1,9 +1,11 @@
 -- Each way out has passed the rows before it.
-use mathlib.Core.Path.{refl, sym, ap, ◌∙◌}
+use mathlib.Core.Path.{◌≡◌, refl, sym, ap, ◌∙◌}
 use mathlib.Core.List.{List}
 use Prim.Native.Nat.{ℕ, ◌≤◌}
 use native.Mathlib.Omega.{arith}
+use borrow.Author.Rules.{rules}
 use lib.ListN.{length}
+use Rattle.std.specs.Prelude.{Err}
 use Rattle.lines.specs.Reading.{longest_line}
 use Rattle.lines.specs.Fields.{a_number}
 use Rattle.fields.specs.Numbers.{field_result, field_read}
@@ -12,7 +14,7 @@ use Rattle.worklist.proofs.read_window.Goals as goal
 
 pub returns-then-line-gt-LONGEST_LINE : goal.returns-then-line-gt-LONGEST_LINE
 unfolding longest_line
-returns-then-line-gt-LONGEST_LINE c = c.refused_with.ensures ∙ row_11 _ (omega arith)
+returns-then-line-gt-LONGEST_LINE c = row_11 _ (omega arith)
 
 pub overflow_add-a : goal.overflow_add-a
 unfolding longest_line
@@ -26,36 +28,34 @@ short l h = h
 pub returns-then-b-line : goal.returns-then-b-line
 returns-then-b-line c =
     let l = c.args.line.now in
-    c.refused_with-then-b-line.ensures
-    ∙ row_13 l (short l (omega arith)) _ _ c.number_at-a.ensures.0 c.number_at-b.ensures.0 c.if-b-line.true
+    row_13 l (short l (omega arith)) _ _ c.number_at-a.ensures.0 c.number_at-b.ensures.0 c.if-b-line.true
 
-pub returns-in_default : goal.returns-in_default
-unfolding field_result
-returns-in_default c =
+pub returns-in_err-first : goal.returns-in_err-first
+returns-in_err-first c =
     let l = c.args.line.now in
-    c.refused_with-in_default.ensures
-    ∙ first_bad l (short l (omega arith)) _ _ c.number_at-a.ensures.0 c.number_at-b.ensures.0 c.if-b-line.false
-    (sym (ap field_result c.in_default.is) ∙ c.number_at-a.ensures.1)
+    let e : c.from_residual.result ≡ Err c.in_err-first.field-0.0 = search rules in
+    rw e
+    (first_bad l (short l (omega arith)) _ _ c.number_at-a.ensures.0 c.number_at-b.ensures.0 c.if-b-line.false
+    _ (sym (ap field_result c.in_err-first.was) ∙ c.number_at-a.ensures.1))
 
-pub returns-in_default-number : goal.returns-in_default-number
-unfolding field_result
-returns-in_default-number c =
+pub returns-in_err-last : goal.returns-in_err-last
+returns-in_err-last c =
     let l = c.args.line.now in
     let s = short l (omega arith) in
     let a = c.number_at-a.ensures in
     let b = c.number_at-b.ensures in
-    c.refused_with-in_default-number.ensures
-    ∙ second_bad l s _ _ a.0 b.0 c.if-b-line.false
-    _ (sym (ap field_result c.in-Number.is) ∙ a.1)
-    (sym (ap field_result c.in_default-number.is) ∙ b.1 ∙ ap (field_read a_number) (sym (second_field l s _ _ a.0 b.0)))
+    let e : c.from_residual-in_err-last.result ≡ Err c.in_err-last.field-0.0 = search rules in
+    rw e
+    (second_bad l s _ _ a.0 b.0 c.if-b-line.false
+    _ (sym (ap field_result c.in_ok-first.was) ∙ a.1)
+    _ (sym (ap field_result c.in_err-last.was) ∙ b.1 ∙ ap (field_read a_number) (sym (second_field l s _ _ a.0 b.0))))
 
 pub returns : goal.returns
-unfolding field_result
 returns c =
     let l = c.args.line.now in
     let s = short l (omega arith) in
     let a = c.number_at-a.ensures in
     let b = c.number_at-b.ensures in
     both_good l s _ _ a.0 b.0 c.if-b-line.false
-    _ (sym (ap field_result c.in-Number.is) ∙ a.1)
-    _ (sym (ap field_result c.in-Number-number.is) ∙ b.1 ∙ ap (field_read a_number) (sym (second_field l s _ _ a.0 b.0)))
+    _ (sym (ap field_result c.in_ok-first.was) ∙ a.1)
+    _ (sym (ap field_result c.in_ok-last.was) ∙ b.1 ∙ ap (field_read a_number) (sym (second_field l s _ _ a.0 b.0)))

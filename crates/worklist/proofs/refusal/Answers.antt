@@ -1,15 +1,21 @@
-use Rattle.worklist.proofs.Found.{found_read, found_none, found_many, found_slot}
+-- The refusal found in reading, or the one of the call.
+use mathlib.Core.Path.{refl, sym, ◌∙◌}
+use Rattle.worklist.specs.Refusals.{or_else}
+use Rattle.worklist.proofs.Found.{found_none, found_many, found_slot}
 use Rattle.worklist.proofs.refusal.Goals as goal
 
-pub returns-then-refused-ne0 : goal.returns-then-refused-ne0
-returns-then-refused-ne0 c = found_read _ _ _ c.if-refused-ne0.true
+pub returns-in-Some : goal.returns-in-Some
+unfolding or_else
+returns-in-Some c = rw c.in-Some.is refl
 
 pub returns-then-number-eq0 : goal.returns-then-number-eq0
-returns-then-number-eq0 c = found_none _ _ _ c.if-refused-ne0.false c.if-number-eq0.true
+unfolding or_else
+returns-then-number-eq0 c = rw c.in_default.is (found_none _ _ c.if-number-eq0.true)
 
-pub returns-then-number-eq18 : goal.returns-then-number-eq18
-returns-then-number-eq18 c = found_many _ _ _ c.if-refused-ne0.false c.if-number-eq18.true
+pub returns-then-number : goal.returns-then-number
+unfolding or_else
+returns-then-number c = rw c.in_default.is (found_many _ _ (c.if-number.true ∙ c.number.ensures))
 
 pub returns : goal.returns
-returns c =
-    found_slot _ _ _ c.if-refused-ne0.false c.if-number-eq0.false c.if-number-eq18.false _ c.windows_first-first.ensures.0
+unfolding or_else
+returns c = rw c.in_default.is (found_slot _ _ c.if-number-eq0.false (λ e. c.if-number.false (e ∙ sym c.number.ensures)) _ c.windows_first-first.ensures.0)

@@ -1,40 +1,23 @@
--- Those before i have windows.
-use mathlib.Core.Path.{◌≡◌, refl, sym, ap, ◌∙◌}
+-- The library's position in the places that hold jobs.
+use mathlib.Core.Path.{◌≡◌, ap, ◌∙◌}
+use mathlib.Core.Bool.{not}
 use native.Mathlib.Omega.{arith}
-use lib.ListN.{length, take}
-use Rattle.lists.specs.Select.{every}
-use native.Mathlib.Numerals.{add-one}
-use Rattle.lists.proofs.Tests.{and_intro}
-use Rattle.lists.proofs.Every.{every_more}
-use Rattle.hindsight.proofs.Searching.Listed.{blank}
-use Rattle.worklist.proofs.FirstWindows.{fails_first, all_have}
-use Rattle.matching.specs.Windows.{is_window as is_window_of}
+use borrow.Author.Rules.{rules}
+use lib.ListN.{take}
+use Rattle.std.specs.Option.{unwrap_or}
+use Rattle.std.specs.List.{position}
+use Rattle.std.proofs.lemmas.Iterator.Search.{position_from_yields_List}
+use Rattle.std.proofs.lemmas.Iterator.{YieldsList-from_slice}
+use Rattle.matching.specs.Windows.{is_window as is_window_of, windows_of}
+use Rattle.worklist.specs.Inner.Collecting.{passing}
+use Rattle.worklist.proofs.FirstWindows.{first_of_places, places_within}
 use Rattle.worklist.proofs.windows_first.Goals as goal
-
-pub loop-i-init : goal.loop-i-init
-unfolding every
-loop-i-init c = (omega arith, refl)
-
-pub returns-then-not-is_window : goal.returns-then-not-is_window
-returns-then-not-is_window c =
-    let d = c.args.d in (
-      fails_first d _ _ (omega arith) c.lesser-n.ensures (omega arith) c.loop-i.invariant.1
-          (sym c.is_window.ensures ∙ c.if-not-is_window.true),
-      omega (arith, c.lesser-n.ensures),
-    )
-
-pub loop-i-preserved : goal.loop-i-preserved
-loop-i-preserved c =
-    let d = c.args.d in
-    let full : length d.windows ≡ 64 = omega arith in
-    let passes = sym c.is_window.ensures ∙ c.if-not-is_window.false in (
-      omega arith,
-      ap (λ n. every is_window_of (take n d.windows)) (add-one c.loop-i.i)
-          ∙ every_more is_window_of d.windows c.loop-i.i blank (omega (arith, c.lesser-n.ensures))
-          ∙ and_intro _ _ c.loop-i.invariant.1 passes,
-    )
 
 pub returns : goal.returns
 returns c =
     let d = c.args.d in
-    (all_have d _ _ (omega arith) c.lesser-n.ensures (omega arith) c.loop-i.invariant.1, omega (arith, c.lesser-n.ensures))
+    let p : c.position-first.result ≡ position (λ w. not (is_window_of w)) (take c.lesser-n.result d.windows) =
+    position_from_yields_List (λ w. not (is_window_of w)) _ _ _ c.position-first.ensures.ran (YieldsList-from_slice _ cc) (λ x b q k. search rules) in
+    let e : c.unwrap_or.result ≡ passing is_window_of (windows_of d) =
+    c.unwrap_or.ensures ∙ ap (λ o. unwrap_or o c.lesser-n.result) p ∙ first_of_places d _ (omega arith) c.lesser-n.ensures in
+    (e, omega (arith, e, places_within d _ (omega arith) c.lesser-n.ensures))

@@ -1,5 +1,5 @@
 -- What the lines of a list are gathered into.
-use Rattle.std.specs.Prelude.{◌≡◌, Bool, cond, List, [], ◌∷◌, map, ℕ, zero, suc, ◌+◌, ◌≤◌, ltb, eqb, length, set}
+use Rattle.std.specs.Prelude.{◌≡◌, Bool, cond, List, [], ◌∷◌, map, ℕ, zero, suc, ◌+◌, ◌≤◌, ltb, eqb, length, set, Option as Perhaps, Some, None}
 use Rattle.std.proofs.Math.Option.{Option, none, some}
 use Rattle.lines.specs.Bytes.{Bytes, lines}
 use Rattle.matching.specs.declared.Window.{Window}
@@ -10,13 +10,10 @@ use Rattle.worklist.specs.declared.Collected.{Collected}
 use Rattle.worklist.specs.Lines.{window_rows, window_in}
 use Rattle.worklist.specs.Refusals.{first_refused, read_lines}
 
--- a refusal as the code has it: number 0 is none
-unfoldable pub refusal_if : ℕ → (line : ℕ) → Option Refused
-refusal_if zero i = none
-refusal_if (suc n) i = some (record { line = i; number = suc n })
-
-unfoldable pub as_refusal : Refused → Option Refused
-as_refusal r = refusal_if r.number r.line
+-- a refusal as the definitions have it
+abbrev pub as_refusal : Perhaps Refused → Option Refused
+as_refusal None = none
+as_refusal (Some r) = some r
 
 -- the jobs with one more window, while there is a place for it; of one too many only the count is kept
 unfoldable pub with_window : Jobs → Window → Jobs
@@ -34,7 +31,7 @@ pub record Gathered (ls : List Bytes) (d : Jobs) : Type 0 where
 -- the first line that rows 11, 13 and 14 refuse, of those that are read; where none is, their jobs
 pub record CollectedFrom (input : Bytes) (r : Collected) : Type 0 where
   pub refused : as_refusal r.refused ≡ first_refused window_rows 1 (read_lines (lines input))
-  pub gathered : r.refused.number ≡ 0 → Gathered (read_lines (lines input)) r.jobs
+  pub gathered : r.refused ≡ None → Gathered (read_lines (lines input)) r.jobs
 
 -- how many stand before the first that fails the test
 unfoldable pub passing : {A : Type 0} → (A → Bool) → List A → ℕ

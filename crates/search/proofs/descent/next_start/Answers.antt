@@ -1,6 +1,4 @@
 -- The start with 0 behind it, or with 1.
-use Rattle.std.proofs.Common.{arith}
-use Rattle.search.proofs.Start.{next_fits}
 use Rattle.search.proofs.FromCounts.{next_is_zero, next_is_one}
 use Rattle.search.proofs.descent.next_start.Goals as goal
 

@@ -1,7 +1,6 @@
 -- After each laxity, the best so far with no job within it that has 0 for its next bit.
-use Rattle.std.proofs.Common.{◌≡◌, ◌+◌, sym, ◌∙◌, arith}
+use Rattle.std.proofs.Common.{◌+◌, sym, ◌∙◌, arith}
 use Rattle.board.specs.Limits.{longest_laxity, deepest}
-use Rattle.search.specs.Inner.Counts.{column}
 use Rattle.search.proofs.Sums.{column_together}
 use Rattle.search.proofs.ZeroFound.{zero_none, zero_more, zero_found, zero_ended}
 use Rattle.search.proofs.descent.zero_next.Goals as goal

@@ -23,9 +23,9 @@ loop-k-preserved c =
     let next = within_more c.args.counts.now c.loop-k.k c.column_of-within.result i.counted c.column_of-within.ensures.0 in
     let few = c.column_of-within.ensures.1 in
     elim c.if-within-laxity.branch [
-      then-within-laxity w ↦ rw w.full-is
+      | then-within-laxity w ↦ rw w.full-is
           (record { full_small = omega arith; few = omega (arith, few, i.few); counted = next; last_full = full_here _ (omega arith) i.last_full next w.if-within-laxity.true })
-    | else-within-laxity w ↦ rw w.full-is
+      | else-within-laxity w ↦ rw w.full-is
           (record {
             full_small = i.full_small;
             few = omega (arith, few, i.few);

@@ -1,5 +1,5 @@
 -- The new laxity if somebody has it and its excess is better.
-use Rattle.std.proofs.Common.{◌≡◌, ◌+◌, pos, ◌-ℤ◌, to_z, of_z, w32, sym, ◌∙◌, arith}
+use Rattle.std.proofs.Common.{◌+◌, sym, ◌∙◌, arith}
 use Rattle.board.specs.Limits.{longest_laxity}
 use Rattle.search.proofs.BestLaxity.{with_none, with_new, with_old}
 use Rattle.search.proofs.ExcessIs.{excess_is}
