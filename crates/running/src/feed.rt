@@ -2,33 +2,24 @@
 ghost use Rattle.std.specs.Prelude.{◌+◌, ◌≤◌, ◌<◌, ◌^◌, length};
 ghost use Rattle.lines.specs.Output.{at_end};
 ghost use Rattle.lines.specs.Printers.{answers_printed};
-ghost use Rattle.lines.specs.Machine.{partial_room, last_answers, last_session, last_printer, printed_at_end};
+ghost use Rattle.lines.specs.Machine.{last_answers, last_session, last_printer, printed_at_end};
 ghost use Rattle.buffer.specs.Puts.{PutWithin};
 ghost use Rattle.tallies.specs.Room.{tally_room};
 ghost use Rattle.answers.specs.Printed.{answer_room};
 ghost use Rattle.session.specs.Inner.Days.{session_of, GoodDay};
 ghost use Rattle.running.specs.Inner.Days.{Given};
-ghost use Rattle.running.specs.Inner.Machines.{NewState, machine_of, TakenIn, GoesOn, PutAt};
+ghost use Rattle.running.specs.Inner.Machines.{NewState, machine_of, after, TakenIn, GoesOn, PutAt};
 
 use crate::answering;
-use crate::answering::DayAfter;
+use crate::answering::Lists;
+use crate::state::State;
 use board::Board;
-use cutting::Partial;
 use printers::{Printer, Program};
-use session::{Day, DayHead};
+use session::Day;
 
-// What a program holds between two bytes: the day, what its printer knows, and the bytes so far of the line that is being read.
-#[derive(Clone, Copy)]
-pub struct State {
-    pub day: Day,
-    pub printer: Printer,
-    pub partial: Partial,
-}
-
-// A part of a chunk taken in: the state after it, how far the chunk is used, and where the output ends.
+// Some of a chunk taken in: how far the chunk is used, and where the output ends.
 #[derive(Clone, Copy)]
 pub struct Fed {
-    pub state: State,
     pub used: usize,
     pub at: usize,
 }
@@ -37,196 +28,144 @@ pub struct Fed {
 pub(crate) fn new_state(program: Program) -> State
     ensures { NewState program result }
 {
-    let o = Board::open(0);
-    let board = o.board;
-    let tally = tally::zero();
     let day = Day {
-        opened: false,
-        board,
-        tally,
+        board: None,
+        tally: tally::zero(),
     };
-    let page = page::new_page();
     let printer = Printer {
         program,
         number: 1,
-        page,
+        page: page::new_page(),
     };
-    let partial = cutting::no_bytes();
     State {
         day,
         printer,
-        partial,
+        partial: cutting::no_bytes(),
     }
 }
 
-// Takes in the chunk's bytes from `from` on, up to the end of the line that they begin with or go on with, or to the chunk's end.
-fn feed_part(state: State, chunk: &[u8], from: usize, out: &mut [u8], at: usize) -> Fed
-    requires good_day { GoodDay state.day }
-    requires len_le_partial_room { (state.partial.len ≤ partial_room) × (from ≤ length chunk.now) × (at + answer_room ≤ length out.old) × (state.printer.number < 2 ^ 63) }
-    ensures taken_in { TakenIn state chunk.now from out.old at result out.new }
-    ensures from_lt_used { from < length chunk.now → from < result.used }
+// Takes in the chunk's bytes from `from` on, up to the end of the line that they begin with or go on with, or to the chunk's end. The line's bytes are kept.
+fn feed_part(
+    state: &mut State,
+    chunk: &[u8],
+    from: usize,
+    lists: &mut Lists,
+    out: &mut [u8],
+    at: usize,
+) -> Fed
+    requires in_chunk { from ≤ length chunk.now }
+    requires has_room { at + answer_room ≤ length out.old }
+    requires few_lines { state.old.printer.number < 2 ^ 63 }
+    ensures taken_in { TakenIn state.old chunk.now from out.old at (after state.new result) out.new }
+    ensures forward { from < length chunk.now → from < result.used }
 {
-    let day = state.day;
-    let printer = state.printer;
     let cut = cutting::cut_line(state.partial, chunk, from);
-    let mut partial = cut.partial;
+    state.partial = cut.partial;
     if !cut.ended {
-        let kept = State {
-            day,
-            printer,
-            partial,
-        };
-        return Fed {
-            state: kept,
-            used: cut.used,
-            at,
-        };
+        return Fed { used: cut.used, at };
     }
-    let bytes = partial.bytes;
-    let len = partial.len;
-    let after = answering::answer_line(day, printer, &bytes[..len], out, at);
-    partial.len = 0;
-    let next = after.day;
-    let known = after.printer;
-    let left = State {
-        day: next,
-        printer: known,
-        partial,
-    };
+    let line = &cut.partial.bytes[..cut.partial.len];
+    let end = answering::answer_line(&mut state.day, &mut state.printer, line, lists, out, at);
+    state.partial.len = 0;
     Fed {
-        state: left,
         used: cut.used,
-        at: after.at,
-    }
-}
-
-// Takes in the lines that end in the chunk from `from` on, while the buffer has room for what a line may print; none where a line has begun.
-fn feed_whole(state: State, chunk: &[u8], from: usize, out: &mut [u8], at: usize) -> Fed
-    requires good_day { GoodDay state.day }
-    requires len_le_partial_room { (state.partial.len ≤ partial_room) × (from ≤ length chunk.now) × (at ≤ length out.old) }
-    requires chunk_bound { state.printer.number + length chunk.now < from + 2 ^ 63 }
-    ensures { TakenIn state chunk.now from out.old at result out.new }
-{
-    let partial = state.partial;
-    if partial.len != 0 {
-        return Fed {
-            state,
-            used: from,
-            at,
-        };
-    }
-    let mut keys = [0u32; Board::PLACES];
-    let mut tickets = [0u32; Board::PLACES];
-    let mut admitted = [0u32; Board::PLACES];
-    let day = state.day;
-    let board = day.board;
-    let head = packing::unpack(board, &mut keys, &mut tickets, &mut admitted);
-    let tally = day.tally;
-    let mut counts = tally.counts;
-    let begun = DayHead {
-        opened: day.opened,
-        head,
-    };
-    let printer = state.printer;
-    let f = answering::feed_lines(
-        begun,
-        printer,
-        &mut keys,
-        &mut tickets,
-        &mut admitted,
-        &mut counts,
-        chunk,
-        from,
-        out,
-        at,
-    );
-    let next = answering::packed_day(f.day, &keys, &tickets, &admitted, counts);
-    let known = f.printer;
-    let left = State {
-        day: next,
-        printer: known,
-        partial,
-    };
-    Fed {
-        state: left,
-        used: f.used,
-        at: f.at,
-    }
-}
-
-// Takes in the chunk's bytes from `from` on, while the buffer has room for what a line may print. The first line, or the rest of one that has begun, and the
-// last, if it does not end here, are taken in by themselves; those between them one after the other.
-pub(crate) fn feed(state: State, chunk: &[u8], from: usize, out: &mut [u8], at: usize) -> Fed
-    requires good_day { GoodDay state.day }
-    requires len_le_partial_room { (state.partial.len ≤ partial_room) × (from ≤ length chunk.now) × (at ≤ length out.old) }
-    requires chunk_bound { state.printer.number + length chunk.now < from + 2 ^ 63 }
-    ensures taken_in { TakenIn state chunk.now from out.old at result out.new }
-    ensures goes_on { GoesOn chunk.now from out.old at result }
-{
-    let mut next = state;
-    let mut used = from;
-    let mut end = at;
-    while used < chunk.len() && end + answers::ANSWER_ROOM <= out.len() {
-        let part = feed_part(next, chunk, used, out, end);
-        let begun = part.state;
-        let all = feed_whole(begun, chunk, part.used, out, part.at);
-        next = all.state;
-        used = all.used;
-        end = all.at;
-    }
-    Fed {
-        state: next,
-        used,
         at: end,
     }
 }
 
-// Answers a line that has begun.
-fn last_line(state: State, out: &mut [u8], at: usize) -> DayAfter
-    requires good_day { GoodDay state.day }
-    requires len_le_partial_room { (state.partial.len ≤ partial_room) × (state.printer.number < 2 ^ 63) × (at + answer_room ≤ length out.old) }
-    ensures { let m = machine_of state in
-        Given (answers_printed m.printer (last_answers m)) (last_session m) (last_printer m) out.old at result out.new }
+// Takes in one line, as far as it is in the chunk from `from` on: a whole one where it lies, the rest of one that has begun and the beginning of one that does
+// not end here by its bytes.
+fn feed_line(
+    state: &mut State,
+    chunk: &[u8],
+    from: usize,
+    lists: &mut Lists,
+    out: &mut [u8],
+    at: usize,
+) -> Fed
+    requires in_chunk { from ≤ length chunk.now }
+    requires has_room { at + answer_room ≤ length out.old }
+    requires few_lines { state.old.printer.number < 2 ^ 63 }
+    ensures taken_in { TakenIn state.old chunk.now from out.old at (after state.new result) out.new }
+    ensures forward { from < length chunk.now → from < result.used }
 {
-    let day = state.day;
-    let printer = state.printer;
-    let partial = state.partial;
-    let len = partial.len;
-    if len == 0 {
-        return DayAfter { day, printer, at };
+    let to = lists::next_byte(chunk, from, b'\n');
+    if to < chunk.len() && state.partial.len == 0 {
+        let line = &chunk[from..to];
+        let end = answering::answer_line(&mut state.day, &mut state.printer, line, lists, out, at);
+        return Fed {
+            used: to + 1,
+            at: end,
+        };
     }
-    let bytes = partial.bytes;
-    answering::answer_line(day, printer, &bytes[..len], out, at)
+    feed_part(state, chunk, from, lists, out, at)
+}
+
+// Takes in the chunk's bytes from `from` on, while the buffer has room for what a line may print.
+pub(crate) fn feed(
+    state: &mut State,
+    chunk: &[u8],
+    from: usize,
+    out: &mut [u8],
+    at: usize,
+) -> Fed
+    requires in_chunk { from ≤ length chunk.now }
+    requires in_buffer { at ≤ length out.old }
+    requires few_lines { state.old.printer.number + length chunk.now < from + 2 ^ 63 }
+    ensures taken_in { TakenIn state.old chunk.now from out.old at (after state.new result) out.new }
+    ensures goes_on { GoesOn chunk.now from out.old at (after state.new result) }
+{
+    let mut lists = Lists::new();
+    let mut used = from;
+    let mut end = at;
+    while used < chunk.len() && end + answers::ANSWER_ROOM <= out.len() {
+        let fed = feed_line(state, chunk, used, &mut lists, out, end);
+        used = fed.used;
+        end = fed.at;
+    }
+    Fed { used, at: end }
+}
+
+// Answers a line that has begun; where its print ends.
+fn last_line(state: &mut State, out: &mut [u8], at: usize) -> usize
+    requires has_room { at + answer_room ≤ length out.old }
+    requires few_lines { state.old.printer.number < 2 ^ 63 }
+    ensures { let m = machine_of state.old in
+        let end = record { day = state.new.day; printer = state.new.printer; at = result } in
+        Given (answers_printed m.printer (last_answers m)) (last_session m) (last_printer m) out.old at end out.new }
+{
+    let len = state.partial.len;
+    if len == 0 {
+        return at;
+    }
+    let mut lists = Lists::new();
+    let line = &state.partial.bytes[..len];
+    answering::answer_line(&mut state.day, &mut state.printer, line, &mut lists, out, at)
 }
 
 // Prints the tally of an open board; where it ends.
-fn print_day(day: Day, out: &mut [u8], at: usize) -> usize
-    requires good_day { GoodDay day }
-    requires tally_room_in_bounds { at + tally_room ≤ length out.old }
-    ensures { let s = session_of day in
+fn print_day(day: &Day, out: &mut [u8], at: usize) -> usize
+    requires good_day { GoodDay day.now }
+    requires has_room { at + tally_room ≤ length out.old }
+    ensures { let s = session_of day.now in
         PutWithin tally_room (at_end s.board s.tally) out.old at result out.new }
 {
-    if !day.opened {
+    let Some(board) = &day.board else {
         return at;
-    }
-    let grades = Board::grade_count(day.board.depth) as usize;
-    let tally = day.tally;
-    tallies::print_tally(tally, grades, out, at)
+    };
+    let grades = Board::grade_count(board.head.depth) as usize;
+    tallies::print_tally(day.tally, grades, out, at)
 }
 
 // The end of input: a line that has begun is answered; then comes the tally of an open board, or the sheet's last page.
-pub(crate) fn finish(state: State, out: &mut [u8], at: usize) -> usize
-    requires good_day { GoodDay state.day }
-    requires len_le_partial_room { (state.partial.len ≤ partial_room) × (state.printer.number < 2 ^ 63) × (at + answer_room + answer_room ≤ length out.old) }
-    ensures { PutAt (printed_at_end (machine_of state)) out.old at result out.new }
+pub(crate) fn finish(state: &mut State, out: &mut [u8], at: usize) -> usize
+    requires has_room { at + answer_room + answer_room ≤ length out.old }
+    requires few_lines { state.old.printer.number < 2 ^ 63 }
+    ensures { PutAt (printed_at_end (machine_of state.old)) out.old at result out.new }
 {
-    let after = last_line(state, out, at);
-    let day = after.day;
-    let printer = after.printer;
-    let page = printer.page;
-    let program = printer.program;
-    match program {
-        Program::Board => print_day(day, out, after.at),
-        Program::Sheet => printers::print_last(page, out, after.at),
+    let end = last_line(state, out, at);
+    match state.printer.program {
+        Program::Board => print_day(&state.day, out, end),
+        Program::Sheet => printers::print_last(&state.printer.page, out, end),
     }
 }

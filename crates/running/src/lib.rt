@@ -1,6 +1,7 @@
-// A run of a program: lines answered one after the other (answering), a chunk of bytes (feed), standard input to standard output (run).
+// A run of a program: what it holds between two bytes (state), a line answered (answering), a chunk of bytes (feed), standard input to standard output (run).
 #![tactic(auto)]
 
 pub mod answering;
 pub mod feed;
 pub mod run;
+pub mod state;

@@ -9,7 +9,12 @@ use Rattle.printers.specs.declared.Printer.{Printer as PrinterHeld}
 use Rattle.printers.specs.Programs.{printer_of}
 use Rattle.session.specs.declared.Day.{Day}
 use Rattle.session.specs.Inner.Days.{session_of, GoodDay}
-use Rattle.running.specs.declared.answering.DayAfter.{DayAfter}
+
+-- the day and the printer after a line, and where its print ends in the buffer
+pub record DayAfter : Type 0 where
+  pub day : Day
+  pub printer : PrinterHeld
+  pub at : ℕ
 
 -- these bytes printed at `at` in the buffer, no more than an answer has; the day after them has this session, and the printer knows this
 pub record Given (bs : Bytes) (s : Session) (p : Printer) (out : Bytes) (at : ℕ) (r : DayAfter) (out' : Bytes) : Type 0 where
