@@ -3,15 +3,14 @@
 use Rattle.std.specs.Prelude.{◌≡◌, ℕ, ◌+◌, ◌*◌, ◌^◌, ◌≤◌, ◌<◌, length, Result, Ok, Err, OnOk}
 use Rattle.lines.specs.Bytes.{Bytes}
 use Rattle.lines.specs.Printers.{Program, whole_output}
-use Rattle.lines.specs.Machine.{partial_room, new_machine, after_bytes, printed_along}
+use Rattle.lines.specs.Machine.{new_machine, after_bytes, printed_along}
 use Rattle.answers.specs.Printed.{answer_room}
 use Rattle.printers.specs.declared.Program.{Program as ProgramRun}
-use Rattle.running.specs.declared.feed.State.{State}
+use Rattle.running.specs.declared.state.State.{State}
 use Rattle.status.specs.declared.Stop.{Stop}
 use Rattle.status.specs.declared.Stop.TheVariants.{ReadFailed, WriteFailed, TooLong}
 use Rattle.status.specs.declared.Outcome.{Outcome}
 use Rattle.running.specs.declared.run.Progress.{Progress}
-use Rattle.session.specs.Inner.Days.{GoodDay}
 use Rattle.running.specs.Inner.Machines.{NewState, machine_of}
 
 -- `Outcome::MOST_READ`
@@ -41,8 +40,6 @@ WrittenSo (Err TooLong) before count after = ⊥
 
 -- A chunk taken in. All that it prints was written, or else a part.
 pub record ChunkTaken (before : Progress) (chunk : Bytes) (after : Progress) (ended : Result Unit Stop) : Type 0 where
-  pub good : GoodDay after.state.day
-  pub partial : after.state.partial.len ≤ partial_room
   pub number : after.state.printer.number ≤ before.state.printer.number + length chunk
   pub read : after.read ≡ before.read + length chunk
   pub few : after.written ≤ before.written + answer_room * length chunk

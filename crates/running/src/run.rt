@@ -1,13 +1,11 @@
 // A program's run: standard input to standard output.
 ghost use Rattle.std.specs.Prelude.{◌≡◌, ◌+◌, ◌≤◌, ◌<◌, ◌^◌, length};
-ghost use Rattle.lines.specs.Machine.{partial_room};
 ghost use Rattle.printers.specs.declared.Program.{Program};
 ghost use Rattle.printers.specs.Programs.{program_of};
-ghost use Rattle.session.specs.Inner.Days.{GoodDay};
 ghost use Rattle.running.specs.Runs.{buffer_length, Begun, WrittenSo, ChunkTaken, outcome_of, Stopped, Ran};
 
 use crate::feed;
-use crate::feed::State;
+use crate::state::State;
 use printers::Program;
 use status::{Ended, Outcome, Stop};
 use std::rt::Clock;
@@ -16,7 +14,6 @@ use std::rt::Clock;
 const BUFFER: usize = 65_536;
 
 // A run so far: the state behind the bytes read, how many they are, and how many bytes of what is printed the system took.
-#[derive(Clone, Copy)]
 struct Progress {
     state: State,
     read: u64,
@@ -56,29 +53,29 @@ impl Progress {
 
     // Takes in a whole chunk, and writes what it prints whenever the buffer has no room for a line more, and at its end.
     fn take_in<R: Print + Clock>(&mut self, rt: &R, chunk: &[u8], out: &mut [u8]) -> Ended
-        requires good_day { GoodDay self.old.state.day }
-        requires len_le_partial_room { (self.old.state.partial.len ≤ partial_room) × (self.old.state.printer.number + length chunk.now < 2 ^ 63) }
-        requires chunk_len_bound { (length chunk.now ≤ buffer_length) × (length out.old ≡ buffer_length) × (self.old.read < 2 ^ 63) × (self.old.written < 2 ^ 63) }
+        requires few_lines { self.old.state.printer.number + length chunk.now < 2 ^ 63 }
+        requires buffers { (length chunk.now ≤ buffer_length) × (length out.old ≡ buffer_length) }
+        requires few_bytes { (self.old.read < 2 ^ 63) × (self.old.written < 2 ^ 63) }
         ensures { ChunkTaken self.old chunk.now self.new result }
     {
         self.read += chunk.len() as u64;
         let mut used: usize = 0;
         while used < chunk.len() {
-            let f = feed::feed(self.state, chunk, used, out, 0);
-            self.state = f.state;
-            used = f.used;
-            self.write(rt, &out[..f.at])?;
+            let fed = feed::feed(&mut self.state, chunk, used, out, 0);
+            used = fed.used;
+            self.write(rt, &out[..fed.at])?;
         }
         Ok(())
     }
 
     // The end of input: writes what is left to print.
     fn finish<R: Print + Clock>(&mut self, rt: &R, out: &mut [u8]) -> Ended
-        requires good_day { GoodDay self.old.state.day }
-        requires len_le_partial_room { (self.old.state.partial.len ≤ partial_room) × (self.old.state.printer.number < 2 ^ 63) × (length out.old ≡ buffer_length) × (self.old.written + buffer_length < 2 ^ 64) }
+        requires few_lines { self.old.state.printer.number < 2 ^ 63 }
+        requires buffer { length out.old ≡ buffer_length }
+        requires few_bytes { self.old.written + buffer_length < 2 ^ 64 }
         ensures { Stopped self.old.state self.old.read self.old.written (outcome_of self.new result) }
     {
-        let end = feed::finish(self.state, out, 0);
+        let end = feed::finish(&mut self.state, out, 0);
         self.write(rt, &out[..end])
     }
 

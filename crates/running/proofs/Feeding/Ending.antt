@@ -21,9 +21,8 @@ use Rattle.printers.specs.declared.Program.{Program}
 use Rattle.printers.specs.declared.Program.TheVariants.{Board, Sheet}
 use Rattle.printers.specs.declared.Printer.{Printer as PrinterHeld}
 use Rattle.printers.specs.Programs.{printer_by, printer_of}
-use Rattle.running.specs.declared.answering.DayAfter.{DayAfter}
 use Rattle.session.specs.Inner.Days.{session_of}
-use Rattle.running.specs.Inner.Days.{Given}
+use Rattle.running.specs.Inner.Days.{DayAfter, Given}
 use Rattle.running.specs.Inner.Machines.{PutAt}
 
 module _ (m : Machine) where

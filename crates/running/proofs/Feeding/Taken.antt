@@ -7,7 +7,7 @@ use native.Mathlib.Omega.{arith}
 use lib.ListN.{length}
 use Rattle.lists.proofs.Tests.{cmp}
 use Rattle.lines.specs.Bytes.{Bytes}
-use Rattle.lines.specs.Machine.{partial_room, Machine, after_bytes, printed_along}
+use Rattle.lines.specs.Machine.{Machine, after_bytes, printed_along}
 use Rattle.lines.proofs.Answers.{after_append, printed_nothing, printed_append}
 use Rattle.buffer.specs.Puts.{put}
 use Rattle.buffer.proofs.Puts.{put_none, put_length}
@@ -15,20 +15,16 @@ use Rattle.cutting.specs.Cut.{part}
 use Rattle.cutting.proofs.Parts.{part_none, part_join}
 use Rattle.answers.specs.Printed.{answer_room}
 use Rattle.buffer.proofs.Pieces.{Left, all_left, fewer_left}
-use Rattle.running.specs.declared.feed.State.{State}
-use Rattle.running.specs.declared.feed.Fed.{Fed}
-use Rattle.session.specs.Inner.Days.{GoodDay}
-use Rattle.running.specs.Inner.Machines.{machine_of, TakenIn, GoesOn}
+use Rattle.running.specs.declared.state.State.{State}
+use Rattle.running.specs.Inner.Machines.{machine_of, After, TakenIn, GoesOn}
 
-pub taken_none : (k : State) (s : Bytes) (from : ℕ) (out : Bytes) (at : ℕ) → GoodDay k.day → k.partial.len ≤ partial_room → from ≤ length s → at ≤ length out
+pub taken_none : (k : State) (s : Bytes) (from : ℕ) (out : Bytes) (at : ℕ) → from ≤ length s → at ≤ length out
     → TakenIn k s from out at (record { state = k; used = from; at = at }) out
 unfolding after_bytes answer_room
-taken_none k s from out at g h l f =
+taken_none k s from out at l f =
     let e = part_none s from in
     let p = printed_nothing (machine_of k) in
     record {
-      good = g;
-      partial = h;
       forward = omega arith;
       inside = l;
       number = omega arith;
@@ -39,14 +35,14 @@ taken_none k s from out at g h l f =
       bytes = rw (e, p) (sym (put_none out at));
     }
 
-module _ {k : State} {s : Bytes} {from : ℕ} {out : Bytes} {at : ℕ} {f : Fed} {mid : Bytes} (a : TakenIn k s from out at f mid) where
+module _ {k : State} {s : Bytes} {from : ℕ} {out : Bytes} {at : ℕ} {f : After} {mid : Bytes} (a : TakenIn k s from out at f mid) where
   abbrev first : Bytes
   first = printed_along (machine_of k) (part s from f.used)
 
   pub kept_length : length mid ≡ length out
   kept_length = ap length a.bytes ∙ put_length out at first (omega (arith, a.end, a.fits))
 
-  module _ {g : Fed} {last : Bytes} (b : TakenIn f.state s f.used mid f.at g last) where
+  module _ {g : After} {last : Bytes} (b : TakenIn f.state s f.used mid f.at g last) where
     abbrev second : Bytes
     second = printed_along (machine_of f.state) (part s f.used g.used)
 
@@ -70,8 +66,6 @@ module _ {k : State} {s : Bytes} {from : ℕ} {out : Bytes} {at : ℕ} {f : Fed}
         let u = part s from f.used in
         let v = part s f.used g.used in
         record {
-          good = b.good;
-          partial = b.partial;
           forward = omega (arith, a.forward, b.forward);
           inside = b.inside;
           number = omega (arith, a.number, b.number);
@@ -100,21 +94,3 @@ module _ {k : State} {s : Bytes} {from : ℕ} {out : Bytes} {at : ℕ} {f : Fed}
 
   pub stops_at_end : length s ≤ f.used → GoesOn s from out at f
   stops_at_end h = record { further = λ r l. omega arith; to_the_end = λ r. omega (arith, a.inside) }
-
--- the same of a state with the same machine, whose printer has the same number
-pub taken_as : (k l : State) (s : Bytes) (from : ℕ) (out : Bytes) (at : ℕ) (f : Fed) (last : Bytes) → machine_of k ≡ machine_of l → k.printer.number ≡ l.printer.number
-    → TakenIn k s from out at f last → TakenIn l s from out at f last
-taken_as k l s from out at f last e n a =
-    let u = part s from f.used in
-    record {
-      good = a.good;
-      partial = a.partial;
-      forward = a.forward;
-      inside = a.inside;
-      number = omega (arith, a.number, n);
-      machine = a.machine ∙ ap (λ (m : Machine). after_bytes m u) e;
-      end = a.end ∙ ap (λ (m : Machine). at + length (printed_along m u)) e;
-      few = a.few;
-      fits = a.fits;
-      bytes = a.bytes ∙ ap (λ (m : Machine). put out at (printed_along m u)) e;
-    }

@@ -5,25 +5,21 @@ use Prim.Native.Nat.{ℕ, ◌+◌, ◌*◌, ◌≤◌}
 use native.Mathlib.Omega.{arith}
 use lib.ListN.{length, length-append}
 use Rattle.lines.specs.Bytes.{Bytes}
-use Rattle.lines.specs.Machine.{partial_room, Machine, after_bytes, printed_along}
+use Rattle.lines.specs.Machine.{Machine, after_bytes, printed_along}
 use Rattle.lines.proofs.Answers.{after_append, printed_nothing, printed_append}
 use Rattle.cutting.specs.Cut.{part}
 use Rattle.cutting.proofs.Parts.{part_none, part_join, part_whole}
 use Rattle.answers.specs.Printed.{answer_room}
 use Rattle.std.specs.Prelude.{Ok, Err}
-use Rattle.running.specs.declared.feed.State.{State}
-use Rattle.running.specs.declared.feed.Fed.{Fed}
+use Rattle.running.specs.declared.state.State.{State}
 use Rattle.running.specs.declared.run.Progress.{Progress}
 use Rattle.status.specs.declared.Stop.{Stop}
 use Rattle.status.specs.declared.Stop.TheVariants.{ReadFailed, WriteFailed, TooLong}
-use Rattle.session.specs.Inner.Days.{GoodDay}
-use Rattle.running.specs.Inner.Machines.{machine_of, TakenIn}
+use Rattle.running.specs.Inner.Machines.{machine_of, After, TakenIn}
 use Rattle.running.specs.Runs.{WrittenSo, ChunkTaken}
 
 -- so many bytes of the chunk are taken in, and all that they print is written
 pub record Along (before : Progress) (chunk : Bytes) (now : Progress) (used : ℕ) : Type 0 where
-  pub good : GoodDay now.state.day
-  pub partial : now.state.partial.len ≤ partial_room
   pub inside : used ≤ length chunk
   pub number : now.state.printer.number ≤ before.state.printer.number + used
   pub read : now.read ≡ before.read + length chunk
@@ -31,15 +27,12 @@ pub record Along (before : Progress) (chunk : Bytes) (now : Progress) (used : �
   pub all : now.written ≡ before.written + length (printed_along (machine_of before.state) (part chunk 0 used))
   pub few : now.written ≤ before.written + answer_room * used
 
-pub along_none : (before : Progress) (chunk : Bytes) → GoodDay before.state.day → before.state.partial.len ≤ partial_room
-    → Along before chunk (record { state = before.state; read = before.read + length chunk; written = before.written }) 0
+pub along_none : (before : Progress) (chunk : Bytes) → Along before chunk (record { state = before.state; read = before.read + length chunk; written = before.written }) 0
 unfolding after_bytes answer_room
-along_none before chunk g h =
+along_none before chunk =
     let e = part_none chunk 0 in
     let none : length (printed_along (machine_of before.state) (part chunk 0 0)) ≡ 0 = rw (e, printed_nothing (machine_of before.state)) in
     record {
-      good = g;
-      partial = h;
       inside = omega arith;
       number = omega arith;
       read = refl;
@@ -58,8 +51,6 @@ module _ {before : Progress} {chunk : Bytes} {now : Progress} {used : ℕ} (a : 
   along_whole h =
       let e : part chunk 0 used ≡ chunk = ap (part chunk 0) (omega (arith, a.inside)) ∙ part_whole chunk in
       record {
-        good = a.good;
-        partial = a.partial;
         number = omega (arith, a.number, a.inside);
         read = a.read;
         few = omega (arith, a.few, a.inside);
@@ -67,7 +58,7 @@ module _ {before : Progress} {chunk : Bytes} {now : Progress} {used : ℕ} (a : 
         written = a.all ∙ ap (λ (x : Bytes). before.written + length (printed_along m x)) e;
       }
 
-  module _ {f : Fed} {out out' : Bytes} (t : TakenIn now.state chunk used out 0 f out') where
+  module _ {f : After} {out out' : Bytes} (t : TakenIn now.state chunk used out 0 f out') where
     abbrev one : Bytes
     one = part chunk 0 used
 
@@ -83,8 +74,6 @@ module _ {before : Progress} {chunk : Bytes} {now : Progress} {used : ℕ} (a : 
       unfolding answer_room
       along_more h =
           record {
-            good = rw state_is t.good;
-            partial = rw state_is t.partial;
             inside = t.inside;
             number = omega (arith, t.number, a.number, ap (λ (k : State). k.printer.number) state_is);
             read = read_is ∙ a.read;
@@ -118,8 +107,6 @@ module _ {before : Progress} {chunk : Bytes} {now : Progress} {used : ℕ} (a : 
           let u = part chunk 0 f.used in
           let e : u ++ rest ≡ chunk = part_join chunk 0 f.used (length chunk) (omega arith) t.inside (omega arith) ∙ part_whole chunk in
           record {
-            good = rw state_is n.good;
-            partial = rw state_is n.partial;
             number = omega (arith, n.number, n.inside, ap (λ (k : State). k.printer.number) state_is);
             read = read_is ∙ n.read;
             few = omega (arith, n.few, n.inside, h);

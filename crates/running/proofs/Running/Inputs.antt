@@ -6,19 +6,18 @@ use native.Mathlib.Omega.{arith}
 use lib.ListN.{length, length-append}
 use Rattle.lines.specs.Bytes.{Bytes}
 use Rattle.lines.specs.Printers.{Program}
-use Rattle.lines.specs.Machine.{partial_room, Machine, new_machine, after_bytes, printed_along, printed_at_end}
+use Rattle.lines.specs.Machine.{Machine, new_machine, after_bytes, printed_along, printed_at_end}
 use Rattle.lines.proofs.Answers.{after_append, printed_nothing, printed_append}
 use Rattle.answers.specs.Printed.{answer_room}
 use Rattle.printers.specs.declared.Program.{Program as ProgramRun}
 use Rattle.printers.specs.Programs.{program_of}
 use Rattle.std.specs.Prelude.{Result, Ok, Err}
-use Rattle.running.specs.declared.feed.State.{State}
+use Rattle.running.specs.declared.state.State.{State}
 use Rattle.streams.specs.declared.failure.Failure.{Failure}
 use Rattle.status.specs.declared.Stop.{Stop}
 use Rattle.status.specs.declared.Stop.TheVariants.{ReadFailed, WriteFailed, TooLong}
 use Rattle.status.specs.declared.Outcome.{Outcome}
 use Rattle.running.specs.declared.run.Progress.{Progress}
-use Rattle.session.specs.Inner.Days.{GoodDay}
 use Rattle.running.specs.Inner.Machines.{machine_of}
 use Rattle.running.specs.Runs.{most_read, Begun, outcome_of, WrittenSo, ChunkTaken, EndsSo, Ran, Stopped}
 use Rattle.running.proofs.Running.Whole.{output_length}
@@ -38,8 +37,6 @@ stopped_at_end state read written count now (Err TooLong) e c h = absurd h
 pub record SoFar (g : Program) (now : Progress) : Type 0 where
   pub input : Bytes
   pub count : now.read ≡ length input
-  pub good : GoodDay now.state.day
-  pub partial : now.state.partial.len ≤ partial_room
   pub number : now.state.printer.number ≤ 1 + now.read
   pub machine : machine_of now.state ≡ after_bytes (new_machine g) input
   pub all : now.written ≡ length (printed_along (new_machine g) input)
@@ -53,8 +50,6 @@ nothing_read {g} b =
     record {
       input = [];
       count = b.read;
-      good = n.good;
-      partial = n.partial;
       number = omega (arith, n.number);
       machine = n.machine;
       all = omega (arith, b.written, none);
@@ -95,8 +90,6 @@ module _ {g : Program} {now : Progress} (s : SoFar g now) where
         record {
           input = both;
           count = omega (arith, c.read, s.count, length-append s.input bytes);
-          good = c.good;
-          partial = c.partial;
           number = omega (arith, c.number, s.number, c.read);
           machine = c.machine ∙ ap (λ (k : Machine). after_bytes k bytes) s.machine ∙ sym (after_append (new_machine g) s.input bytes);
           all = omega (arith, c.written, printed);
