@@ -3,4 +3,5 @@ pub mod Entries
 pub mod Closings
 pub mod Requests
 pub mod Kept
+pub mod Refused
 pub mod Listed

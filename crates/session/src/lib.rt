@@ -7,7 +7,7 @@ ghost use Rattle.lines.specs.Fields.{grade_meant};
 ghost use Rattle.lines.specs.Session.{step_open, step_admit, step_close, step_promise, step_withdraw, step};
 ghost use Rattle.fields.specs.Grades.{grade_of};
 ghost use Rattle.packing.specs.Inner.Packed.{board_of};
-ghost use Rattle.session.specs.Inner.Days.{session_of, GoodDay, open_day, stepped_to, answered_to, Did, DidAlone, Room};
+ghost use Rattle.session.specs.Inner.Days.{session_of, GoodDay, open_day, done, stepped_to, answered_to, Did, DidAlone, Room};
 
 use answers::{Answer, Closing};
 use board::{Board, Laxity, Refusal, Tally};
@@ -127,9 +127,7 @@ fn do_line(
             return close_line(board, &mut day.tally, expired, grades, slots);
         }
         (Asked::Promise, Some(board)) => promise_line(board)?,
-        (Asked::Withdraw(ticket), Some(board)) => {
-            withdraw_line(board, &mut day.tally, ticket)?
-        }
+        (Asked::Withdraw(ticket), Some(board)) => { withdraw_line(board, &mut day.tally, ticket)? }
         (_, None) => unreachable!(),
     };
     Ok(Stepped { answer, listed: 0 })
@@ -143,7 +141,7 @@ pub fn step_line(
     grades: &mut [u8],
     slots: &mut [u32],
 ) -> Stepped
-    ensures { let r = record { day = day.new; answer = result.answer; listed = result.listed } in
+    ensures { let r = done result day.new in
         (GoodDay day.old → Room expired.old grades.old slots.old → Did day.old (step (session_of day.old).board line.now) r expired.new grades.new) }
 {
     match do_line(day, line, expired, grades, slots) {

@@ -42,9 +42,12 @@ pub record SteppedDay : Type 0 where
   pub answer : AnswerHeld
   pub listed : ℕ
 
+abbrev pub done : Stepped → Day → SteppedDay
+done r d = record { day = d; answer = r.answer; listed = r.listed }
+
 -- a line done and the day after it; a refusal is answered with its number
 abbrev pub stepped_to : Result Stepped Refusal → Day → SteppedDay
-stepped_to (Ok r) d = record { day = d; answer = r.answer; listed = r.listed }
+stepped_to (Ok r) d = done r d
 stepped_to (Err r) d = record { day = d; answer = Refused (number_of r); listed = 0 }
 
 -- so for a line that lists no jobs

@@ -10,11 +10,9 @@ use Rattle.running.specs.Runs.{buffer_length}
 use Rattle.running.proofs.Running.Inputs.{stopped_at_end}
 use Rattle.running.proofs.run.Progress.finish.Goals as goal
 
-pub finish-end-requires-clause-len_le_partial_room : goal.finish-end-requires-clause-len_le_partial_room
+pub finish-end-requires-clause-has_room : goal.finish-end-requires-clause-has_room
 unfolding answer_room buffer_length
-finish-end-requires-clause-len_le_partial_room g c =
-    let p = c.requires.len_le_partial_room in
-    (p.0, p.1, omega (arith, p.2))
+finish-end-requires-clause-has_room g c = omega (arith, c.requires.buffer)
 
 pub returns : goal.returns
 returns g c =

@@ -12,13 +12,19 @@ pub loop-self-init : goal.loop-self-init
 unfolding buffer_length
 loop-self-init g c = (λ program b. nothing_read b, omega arith, omega arith)
 
-pub take_in-requires-clause-chunk_len_bound : goal.take_in-requires-clause-chunk_len_bound
-unfolding buffer_length answer_room
-take_in-requires-clause-chunk_len_bound g c =
+pub take_in-requires-clause-buffers : goal.take_in-requires-clause-buffers
+unfolding buffer_length
+take_in-requires-clause-buffers g c =
+    let v = c.loop-self.invariant in
+    (omega (arith, length-take c.in-Ok-Some.n c.read_some.new.buf, c.read_some.auto.buf, v.1), v.2)
+
+pub take_in-requires-clause-few_bytes : goal.take_in-requires-clause-few_bytes
+unfolding answer_room
+take_in-requires-clause-few_bytes g c =
     let v = c.loop-self.invariant in
     let t = c.loop-self-test.true in
     let few = (v.0 c.requires.0 c.requires.1).few in
-    (omega (arith, length-take c.in-Ok-Some.n c.read_some.new.buf, c.read_some.auto.buf, v.1), v.2, omega (arith, t), omega (arith, few, t))
+    (omega (arith, t), omega (arith, few, t))
 
 pub loop-self-preserved : goal.loop-self-preserved
 loop-self-preserved g c =
@@ -30,13 +36,16 @@ returns-in_err-take_in-in-Ok-Some g c =
     let p = err_from_is_err_and c.from_residual.result c.from_residual.ensures.1 in
     λ program b. rw (p.1, p.2) (chunk_part (c.loop-self.invariant.0 program b) _ _ c.in_err-take_in-in-Ok-Some.ensures)
 
-pub finish-requires-clause-len_le_partial_room : goal.finish-requires-clause-len_le_partial_room
-unfolding buffer_length answer_room
-finish-requires-clause-len_le_partial_room g c =
+pub finish-requires-clause-few_lines : goal.finish-requires-clause-few_lines
+finish-requires-clause-few_lines g c =
     let v = c.loop-self.invariant in
-    let t = c.loop-self-test.true in
-    let s = v.0 c.requires.0 c.requires.1 in
-    (s.partial, omega (arith, s.number, t), v.2, omega (arith, s.few, t))
+    omega (arith, (v.0 c.requires.0 c.requires.1).number, c.loop-self-test.true)
+
+pub finish-requires-clause-few_bytes : goal.finish-requires-clause-few_bytes
+unfolding buffer_length answer_room
+finish-requires-clause-few_bytes g c =
+    let v = c.loop-self.invariant in
+    omega (arith, (v.0 c.requires.0 c.requires.1).few, c.loop-self-test.true)
 
 pub returns-in-Err : goal.returns-in-Err
 returns-in-Err g c = λ program b. unread (c.loop-self.invariant.0 program b) _
