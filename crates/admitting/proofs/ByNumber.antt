@@ -29,6 +29,7 @@ unfolding ◌or_else◌
 first_stands zero m h = absurd (h refl)
 first_stands (suc n) m h = refl
 
+-- no refusal has the number 0
 pub some_number : (r : Refusal) → number_of r ≡ 0 → ⊥
 some_number r e = grind arith
 

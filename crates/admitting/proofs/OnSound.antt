@@ -4,12 +4,13 @@ use mathlib.Core.Bool.{true, false}
 use mathlib.Core.List.{[], ◌∷◌}
 use Prim.Native.Nat.{ℕ, zero, suc}
 use lib.Dec.{leb}
+use Rattle.std.specs.Prelude.{Err}
 use borrow.Author.Tests.{lt-leb}
 use Rattle.board.specs.declared.Board.{Board}
-use Rattle.board.specs.declared.Admitted.{Admitted}
+use Rattle.board.specs.declared.refusal.Refusal.TheVariants.{NotSound}
 use Rattle.board.specs.Limits.{places_held}
 use Rattle.board.specs.Rows.{◌if◌, first_given, admit_rows}
-use Rattle.board.specs.Held.{slot_of, slot_number, in_slot}
+use Rattle.board.specs.Held.{slot_of, in_slot}
 use Rattle.board.specs.Sound.{sound}
 use Rattle.board.specs.Admit.{admit_number, admitted_if, admitted}
 use Rattle.board.proofs.Soundness.FreePlace.{free_place}
@@ -17,6 +18,7 @@ use Rattle.board.proofs.Calls.Rows.{row_skipped, admits}
 use Rattle.board.proofs.Calls.SoundAfter.{admit_number_sound}
 use Rattle.limits.specs.Inner.Limits.{◌or_else◌}
 use Rattle.admitting.specs.Inner.InLimits.{in_slot_before, admit_number_in_limits, admitted_in_limits}
+use Rattle.admitting.specs.Inner.Answer.{admitted_answer}
 use Rattle.limits.proofs.Limits.{sound_in_limits, limits_passed}
 use Rattle.admitting.proofs.InSlot.{in_slot_is}
 
@@ -43,6 +45,6 @@ module _ (b : Board) (t w g : ℕ) (s : sound b ≡ true) where
   admitting_on_sound = ap (λ n. admitted_if n b t w g) same_number
 
 -- row 2
-pub admitting_unsound : (b : Board) (t w g : ℕ) (x : Admitted) → sound b ≡ false → x ≡ record { refusal = 2; last = slot_number 0; board = b } → x ≡ admitted b t w g
+pub admitting_unsound : (b : Board) (t w g : ℕ) → sound b ≡ false → admitted_answer (Err NotSound) b ≡ admitted b t w g
 unfolding admitted admit_number admitted_if first_given ◌if◌
-admitting_unsound b t w g x e h = h ∙ simp e
+admitting_unsound b t w g e = simp e

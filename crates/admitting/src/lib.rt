@@ -1,7 +1,7 @@
 // Admitting a job: 01's rows 2 to 7 in order, then the job in the first free place.
 #![tactic(auto)]
 
-ghost use Rattle.std.specs.Prelude.{◌≡◌, ◌≤◌, Err};
+ghost use Rattle.std.specs.Prelude.{◌≡◌, ◌≤◌};
 ghost use Rattle.board.specs.Limits.{places_held};
 ghost use Rattle.board.specs.Admit.{admitted};
 ghost use Rattle.admitting.specs.Inner.InLimits.{in_slot_before, admitted_in_limits};
@@ -76,30 +76,22 @@ pub fn admit_in_limits(
     admit_on(b, ticket, laxity, grade)
 }
 
-// What a refused admitting answers: the board as it was.
-fn refused(refusal: Refusal, board: Board) -> Admitted
-    ensures { result ≡ admitted_answer (Err refusal) board }
-{
-    Admitted {
-        refusal: refusal.number(),
-        last: Slot(0),
-        board,
-    }
-}
-
 // Admits a job: 01's rows 2 to 7 in order, then the job in the first free place.
-pub fn admit(mut b: Board, ticket: u32, laxity: Laxity, grade: u32) -> Admitted
+pub fn admit(b: Board, ticket: u32, laxity: Laxity, grade: u32) -> Admitted
     ensures { result ≡ admitted b ticket laxity.0 grade }
 {
+    let mut answer = Admitted {
+        refusal: 0,
+        last: Slot(0),
+        board: b,
+    };
     if !soundness::is_sound(b) {
-        return refused(Refusal::NotSound, b);
+        answer.refusal = Refusal::NotSound.number();
+        return answer;
     }
-    match admit_in_limits(&mut b, ticket, laxity, grade) {
-        Ok(last) => Admitted {
-            refusal: 0,
-            last,
-            board: b,
-        },
-        Err(refusal) => refused(refusal, b),
+    match admit_in_limits(&mut answer.board, ticket, laxity, grade) {
+        Ok(last) => answer.last = last,
+        Err(refusal) => answer.refusal = refusal.number(),
     }
+    answer
 }

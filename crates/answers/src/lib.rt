@@ -10,7 +10,8 @@ ghost use Rattle.answers.specs.Inner.Fits.{Fits};
 
 use board::{Board, Laxity, Slot};
 
-// A slot closed: the ticket and grade baked, and the shortfall. The jobs given up stand beside it.
+// A slot closed: the ticket and grade baked, 0 and 0 where the slot stays empty, and the shortfall. The jobs given up stand beside it.
+// What may not change: no `Option` for what was baked, since `print_answer` promises a line for every ticket and grade.
 #[derive(Clone, Copy)]
 pub struct Closing {
     pub slot: Slot,
@@ -29,7 +30,7 @@ pub struct GivenUp<'a> {
 
 // What a line is answered: the number of a refusal; the depth opened; the ticket admitted and its last slot; the least laxity that can be promised, 0 for none;
 // the ticket withdrawn; the slot closed.
-// What may not change: a refusal is a number and no `Refusal`, since `print_answer` promises its line for every number.
+// What may not change: a refusal is a number and no `Refusal`, and a laxity no `Option`, since `print_answer` promises a line for every number and laxity.
 #[derive(Clone, Copy)]
 pub enum Answer {
     Refused(u8),

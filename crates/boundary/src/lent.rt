@@ -9,7 +9,8 @@ use board::Tally;
 pub extern "C" fn oven_note(t: &mut Tally, kind: u32, grade: u32) -> u8
     ensures { record { refusal = result; tally = t.new } ≡ counted t.old kind grade }
 {
-    let c = crate::oven_count(*t, kind, grade);
-    *t = c.tally;
-    c.refusal
+    match tally::count_into(t, kind, grade) {
+        Ok(()) => 0,
+        Err(refusal) => refusal.number(),
+    }
 }

@@ -12,7 +12,8 @@ pub fn room_for(most: usize, at: usize, end: usize) -> bool
 }
 
 // Puts the bytes at `at`; where they end. Where there is no room for them nothing is put, and that is `at`.
-// The C interface: this call and those that print take a slice and a place in it, and no `Vec`, since C lends the slice (`oven_page_print`).
+// The C interface: here and in all that prints, a slice and a place in it and no `Vec`, since C lends the slice (`oven_page_print`). What may not change: the
+// place is any number, since `print_answer`, `print_page` and `print_by` promise an answer for every slice and every place.
 pub fn put_bytes(out: &mut [u8], at: usize, bytes: &[u8]) -> usize
     ensures { let bs = bytes.now in
         let fits = leb (at + length bs) (length out.old) in

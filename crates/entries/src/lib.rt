@@ -51,6 +51,7 @@ struct ClosedParts {
 }
 
 // Closes a slot for a list of so many entries.
+#[tactic(auto, unfolding(board::specs::Limits::places_held))]
 fn closing(b: Board, lent: usize) -> ClosedParts
     ensures { Gathered b lent result }
 {

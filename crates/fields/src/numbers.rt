@@ -16,7 +16,8 @@ pub struct NumberAt {
     pub end: usize,
 }
 
-// The number of a field's bytes: 1 to 10 decimal digits, at most 4,294,967,295. The library's `from_str` reads other texts too: `+5`, and eleven digits.
+// The number of a field's bytes: 1 to 10 decimal digits, at most 4,294,967,295.
+// Not the library's `from_str`: what may not change, `number_at` refuses `+5` and `00000000001`, which that reads.
 fn number_of(bytes: &[u8]) -> Result<u32, Refusal>
     ensures { field_result result ≡ field_read a_number bytes.now }
 {

@@ -24,7 +24,7 @@ pub fn is_window(w: Window) -> bool
     1 <= w.first.0 && w.first.0 <= w.last.0 && w.last.0 as usize <= Jobs::SLOTS
 }
 
-// The slot of each job, 0 for none.
+// The slots that `lay_out` gives, or why the list is refused.
 fn plan(d: &Jobs) -> Result<[u32; Jobs::MOST], Refusal>
     ensures { answer_of result ≡ best_day d.now }
 {

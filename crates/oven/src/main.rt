@@ -4,8 +4,6 @@
 use std::process::ExitCode;
 
 fn main(rt: HostRuntime) -> ExitCode {
-    if starting::has_argument(&rt, "oven", "a day") {
-        return ExitCode::from(starting::WRONG_ARGUMENT);
-    }
-    ExitCode::from(program::oven_run(&rt))
+    let status = starting::start(&rt, "oven", "a day", || program::oven_run(&rt));
+    ExitCode::from(status)
 }

@@ -4,8 +4,6 @@
 use std::process::ExitCode;
 
 fn main(rt: HostRuntime) -> ExitCode {
-    if starting::has_argument(&rt, "hindsight", "a list of racks") {
-        return ExitCode::from(starting::WRONG_ARGUMENT);
-    }
-    ExitCode::from(planning::hindsight_run(&rt))
+    let status = starting::start(&rt, "hindsight", "a list of racks", || planning::hindsight_run(&rt));
+    ExitCode::from(status)
 }

@@ -4,8 +4,6 @@
 use std::process::ExitCode;
 
 fn main(rt: HostRuntime) -> ExitCode {
-    if starting::has_argument(&rt, "sheet", "a day") {
-        return ExitCode::from(starting::WRONG_ARGUMENT);
-    }
-    ExitCode::from(program::sheet_run(&rt))
+    let status = starting::start(&rt, "sheet", "a day", || program::sheet_run(&rt));
+    ExitCode::from(status)
 }

@@ -1,4 +1,3 @@
-pub mod Known
 pub mod OnPage
 pub mod Handed
 pub mod Refused

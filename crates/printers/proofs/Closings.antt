@@ -1,13 +1,14 @@
 -- A closing handed to a page: what is printed of it, and the page after it.
-use Rattle.std.proofs.Common.{◌≡◌, ℕ, Bool, cond, ◌&&◌, eqb, List, [], ◌∷◌, length, sym, refl, ap, ◌∙◌, append-nil, eq-eqb, ne_eqb}
+use Rattle.std.proofs.Common.{◌≡◌, ℕ, true, Bool, cond, ◌&&◌, eqb, List, [], ◌∷◌, length, sym, refl, ap, ◌∙◌, append-nil, eq-eqb, ne_eqb}
 use Rattle.lists.proofs.Tests.{cond_true}
 use Rattle.lines.specs.Sheet.{Figures, figures_of, page, figures_in, sheet_number, is_full, with_closing, page_after}
 use Rattle.lines.specs.Printers.{page_along, filled_by, pages_along}
 use Rattle.answers.specs.declared.Closing.{Closing as ClosingHeld}
 use Rattle.answers.specs.declared.Answer.{Answer as AnswerHeld}
 use Rattle.answers.specs.declared.Answer.TheVariants.{Refused, Opened, Admitted, Promised, Withdrawn, Closed}
-use Rattle.answers.specs.Printed.{answer_of}
+use Rattle.answers.specs.Printed.{answer_of, answer_fits}
 use Rattle.answers.proofs.Jobs.{jobs_length}
+use Rattle.answers.proofs.Room.{answer_fitting}
 use Rattle.page.specs.declared.Figures.{Figures as FiguresHeld}
 use Rattle.page.specs.declared.Page.{Page}
 use Rattle.page.specs.Pages.{figures_held, handed_over}
@@ -73,8 +74,13 @@ pub record IsClosing (a : AnswerHeld) (T G : List ℕ) (f : FiguresHeld) : Type 
 abbrev pub figures_closed : ClosingHeld → (listed : ℕ) → FiguresHeld
 figures_closed c n = record { slot = c.slot; ticket = c.ticket; grade = c.grade; listed = n }
 
-pub is_closing : {a : AnswerHeld} {c : ClosingHeld} (T G : List ℕ) → a ≡ Closed c → length G ≡ length T → IsClosing a T G (figures_closed c (length T))
+is_closing : {a : AnswerHeld} {c : ClosingHeld} (T G : List ℕ) → a ≡ Closed c → length G ≡ length T → IsClosing a T G (figures_closed c (length T))
 is_closing {c = c} T G e n = record { short = c.shortfall; closed = e; listed = refl; as_many = n }
+
+-- where the answer fits
+pub closing_fits : {a : AnswerHeld} {c : ClosingHeld} (T G : List ℕ) (at end : ℕ) → a ≡ Closed c → answer_fits (length T) (length G) at end ≡ true
+    → IsClosing a T G (figures_closed c (length T))
+closing_fits T G at end e f = is_closing T G e (answer_fitting (length T) (length G) at end f).as_many
 
 -- it brings them to the sheet
 module _ {a : AnswerHeld} {T G : List ℕ} {f : FiguresHeld} (c : IsClosing a T G f) where

@@ -28,7 +28,7 @@ module _ (k : PrinterHeld) (a : AnswerHeld) (T G : List ℕ) (e : k.program ≡ 
 
   pub printed_lines : {out : Bytes} {at r : ℕ} {out' : Bytes} (f : Bool) (next : ℕ) → next ≡ cond f (next_number k.number) k.number
       → PutIf f answer_room (printed_answer k.number (answer_of a T G)) out at r out'
-      → PrintedIf f k a T G out at (record { printer = record { program = k.program; number = next; page = k.page }; at = r }) out'
+      → PrintedIf f k a T G out at (record { program = k.program; number = next; page = k.page }) r out'
   unfolding printer_of printer_after next_number
   printed_lines true next h p =
       record {

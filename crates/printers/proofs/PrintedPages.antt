@@ -1,5 +1,5 @@
 -- What the sheet's program prints of an answer, and what its printer holds after it.
-use Rattle.std.proofs.Common.{◌≡◌, ℕ, Bool, true, cond, List, [], ◌∷◌, length, sym, refl, ap, ◌∙◌, subst, append-nil}
+use Rattle.std.proofs.Common.{◌≡◌, ℕ, Bool, true, cond, List, [], ◌∷◌, length, sym, refl, ap, ◌∙◌, append-nil}
 use mathlib.Core.List.{flat_map}
 use Rattle.lines.specs.Bytes.{Bytes}
 use Rattle.lines.specs.Session.{Answer}
@@ -14,7 +14,7 @@ use Rattle.page.specs.declared.Figures.{Figures as FiguresHeld}
 use Rattle.page.specs.declared.Page.{Page}
 use Rattle.page.specs.declared.HandedOver.{HandedOver}
 use Rattle.page.specs.Pages.{figures_held, page_of, handed_over}
-use Rattle.page.proofs.Handed.{answer_refused, answer_number}
+use Rattle.page.proofs.Handed.{answer_number}
 use Rattle.printers.specs.declared.Program.{Program}
 use Rattle.printers.specs.declared.Program.TheVariants.{Sheet}
 use Rattle.printers.specs.declared.Printer.{Printer as PrinterHeld}
@@ -44,7 +44,7 @@ module _ (k : PrinterHeld) (a : AnswerHeld) (T G : List ℕ) (e : k.program ≡ 
 
   printed_pages : {out : Bytes} {at r : ℕ} {out' : Bytes} (page' : Page) → page' ≡ page_held k.page a (length T) → page_of page' ≡ page_along before (figures_in answer)
       → PutWithin answer_room (pages_along before (figures_in answer)) out at r out'
-      → PrintedIf true k a T G out at (record { printer = record { program = k.program; number = k.number; page = page' }; at = r }) out'
+      → PrintedIf true k a T G out at (record { program = k.program; number = k.number; page = page' }) r out'
   unfolding printer_of printer_after
   printed_pages page' held h p =
       record {
@@ -54,7 +54,7 @@ module _ (k : PrinterHeld) (a : AnswerHeld) (T G : List ℕ) (e : k.program ≡ 
       }
 
   -- an answer that is no closing
-  pub printed_no_closing : (out : Bytes) (at : ℕ) → page_held k.page a (length T) ≡ k.page → figures_in answer ≡ [] → PrintedIf true k a T G out at (record { printer = k; at = at }) out
+  pub printed_no_closing : (out : Bytes) (at : ℕ) → page_held k.page a (length T) ≡ k.page → figures_in answer ≡ [] → PrintedIf true k a T G out at k at out
   unfolding page_along pages_along
   printed_no_closing out at same n =
       printed_pages k.page (sym same) (sym (ap (page_along before) n)) (put_as (ap (pages_along before) n) (put_nil answer_room out at))
@@ -69,7 +69,7 @@ module _
     number = ap (λ (r : HandedOver). r.refusal) is ∙ answer_number k.page f (sheet_number (figures_held f))
 
     printed_closing : {out : Bytes} {at r : ℕ} {out' : Bytes} (bs : Bytes) → pages_along (page_of k.page) (figures_held f ∷ []) ≡ bs → PutWithin answer_room bs out at r out'
-        → PrintedIf true k a T G out at (record { printer = record { program = k.program; number = k.number; page = h.page }; at = r }) out'
+        → PrintedIf true k a T G out at (record { program = k.program; number = k.number; page = h.page }) r out'
     printed_closing bs n p =
         let brought = closing_figures c in
         printed_pages k a T G e h.page
@@ -78,17 +78,14 @@ module _
         (put_as (ap (pages_along (page_of k.page)) brought ∙ n) p)
 
     -- it is refused
-    pub printed_refused : (out : Bytes) (at : ℕ) → (h.refusal ≡ 0 → ⊥) → PrintedIf true k a T G out at (record { printer = k; at = at }) out
-    unfolding handed_over
+    pub printed_refused : (out : Bytes) (at : ℕ) → (h.refusal ≡ 0 → ⊥) → PrintedIf true k a T G out at (record { program = k.program; number = k.number; page = h.page }) at out
     printed_refused out at r =
         let refused : sheet_number (figures_held f) ≡ 0 → ⊥ = λ z. r (number ∙ z) in
-        let same : h.page ≡ k.page = ap (λ (r : HandedOver). r.page) (is ∙ answer_refused k.page f (sheet_number (figures_held f)) refused) in
-        subst (λ (q : Page). PrintedIf true k a T G out at (record { printer = record { program = k.program; number = k.number; page = q }; at = at }) out) same
-        (printed_closing [] (refused_printed (page_of k.page) (figures_held f) refused) (put_nil answer_room out at))
+        printed_closing [] (refused_printed (page_of k.page) (figures_held f) refused) (put_nil answer_room out at)
 
     -- it is taken: the page is printed once it is full
     pub printed_taken : {out : Bytes} {at r : ℕ} {out' : Bytes} → h.refusal ≡ 0 → (b : Bool) → is_full (page_of h.page) ≡ b → PutWithin answer_room (cond b (page (page_of h.page)) []) out at r out'
-        → PrintedIf true k a T G out at (record { printer = record { program = k.program; number = k.number; page = h.page }; at = r }) out'
+        → PrintedIf true k a T G out at (record { program = k.program; number = k.number; page = h.page }) r out'
     printed_taken taken b full p =
         printed_closing (cond b (page (page_of h.page)) [])
         (taken_printed (page_of k.page) (figures_held f) (sym number ∙ taken) b (sym (ap is_full after) ∙ full)

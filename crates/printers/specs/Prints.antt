@@ -11,8 +11,6 @@ use Rattle.page.specs.Pages.{handed_over}
 use Rattle.printers.specs.declared.Program.{Program as ProgramRun}
 use Rattle.printers.specs.declared.Program.TheVariants.{Board, Sheet}
 use Rattle.printers.specs.declared.Printer.{Printer as PrinterHeld}
-use Rattle.printers.specs.declared.Printed.{Printed}
-use Rattle.printers.specs.declared.Numbered.{Numbered}
 use Rattle.printers.specs.Programs.{printer_of}
 
 -- the number behind a line's: behind the greatest of 64 bits comes 0
@@ -36,14 +34,14 @@ held_by Sheet k a l = record { program = k.program; number = k.number; page = pa
 unfoldable pub held_after : PrinterHeld → AnswerHeld → (listed : ℕ) → PrinterHeld
 held_after k a l = held_by k.program k a l
 
--- an answer printed at `at` in the buffer, and what is held and known after it; where it does not fit the buffer and the printer are as they were
-pub record PrintedIf (fits : Bool) (k : PrinterHeld) (a : AnswerHeld) (T G : List ℕ) (out : Bytes) (at : ℕ) (r : Printed) (out' : Bytes) : Type 0 where
-  pub put : PutIf fits answer_room (answers_printed (printer_of k) (answer_of a T G ∷ [])) out at r.at out'
-  pub printer : r.printer ≡ cond fits (held_after k a (length T)) k
-  pub known : k.number + 1 < 2 ^ 64 → printer_of r.printer ≡ cond fits (printer_after (printer_of k) (answer_of a T G)) (printer_of k)
+-- an answer printed at `at` in the buffer up to `r`, and what is held and known after it; where it does not fit the buffer and the printer are as they were
+pub record PrintedIf (fits : Bool) (k : PrinterHeld) (a : AnswerHeld) (T G : List ℕ) (out : Bytes) (at : ℕ) (k' : PrinterHeld) (r : ℕ) (out' : Bytes) : Type 0 where
+  pub put : PutIf fits answer_room (answers_printed (printer_of k) (answer_of a T G ∷ [])) out at r out'
+  pub printer : k' ≡ cond fits (held_after k a (length T)) k
+  pub known : k.number + 1 < 2 ^ 64 → printer_of k' ≡ cond fits (printer_after (printer_of k) (answer_of a T G)) (printer_of k)
 
 -- an answer's lines printed for a printer of the board's program that knows this number, and the number that it knows after them
-abbrev pub LinesPrinted : (number : ℕ) → AnswerHeld → (T G : List ℕ) → (out : Bytes) → (at : ℕ) → Numbered → (out' : Bytes) → Type 0
-LinesPrinted n a T G out at r out' =
+abbrev pub LinesPrinted : (number : ℕ) → AnswerHeld → (T G : List ℕ) → (out : Bytes) → (at : ℕ) → (number' : ℕ) → (r : ℕ) → (out' : Bytes) → Type 0
+LinesPrinted n a T G out at n' r out' =
     (k : PrinterHeld) → k.program ≡ Board → k.number ≡ n
-    → PrintedIf (answer_fits (length T) (length G) at (length out)) k a T G out at (record { printer = record { program = k.program; number = r.number; page = k.page }; at = r.at }) out'
+    → PrintedIf (answer_fits (length T) (length G) at (length out)) k a T G out at (record { program = k.program; number = n'; page = k.page }) r out'

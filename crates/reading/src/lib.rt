@@ -15,6 +15,7 @@ use requests::{Asked, LETTER_END, read_fields};
 pub const LONGEST_LINE: usize = 40;
 
 // The definition's most bytes of a line is the constant.
+#[tactic(auto, unfolding(lines::specs::Reading::longest_line))]
 fn limits()
     ensures { LONGEST_LINE ≡ longest_line }
 {}

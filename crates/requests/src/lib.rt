@@ -86,6 +86,7 @@ fn read_admit(line: &[u8]) -> Read
 }
 
 // The fields of a line that starts with this letter: row 14, or what it asks for.
+// The letter is no enum: what may not change, `read_fields` answers for every byte.
 pub fn read_fields(line: &[u8], letter: u8) -> Read
     ensures { length (field 0 line.now) ≡ 1 → read_result result ≡ after_letter letter line.now }
 {

@@ -13,14 +13,14 @@ use Rattle.search.proofs.Start.{start_short}
 abbrev pub cell_from : List ℕ → (start left k : ℕ) → ℕ → ℕ
 cell_from t start left k i = get_or t (cell k (start * 2 ^ left) + i) 0
 
-module _ (start left k : ℕ) (fits : (k < longest_laxity) × Start deepest start left) where
+module _ (start left k : ℕ) (row : k < longest_laxity) (fits : Start deepest start left) where
   pub column_short : left < 64
   unfolding deepest
-  column_short = omega (arith, start_short deepest left start fits.1)
+  column_short = omega (arith, start_short deepest left start fits)
 
   -- they are few
   pub column_narrow : 2 ^ left ≤ 2 ^ deepest
-  column_narrow = pow_mono (start_short deepest left start fits.1)
+  column_narrow = pow_mono (start_short deepest left start fits)
 
   -- how many there are
   pub column_width : 1 * 2 ^ left % 2 ^ 64 ≡ 2 ^ left
@@ -29,7 +29,7 @@ module _ (start left k : ℕ) (fits : (k < longest_laxity) × Start deepest star
   -- the last is one of the counts
   pub column_inside : k * 8 + start * (1 * 2 ^ left % 2 ^ 64) + 1 * 2 ^ left % 2 ^ 64 ≤ 192
   unfolding longest_laxity deepest
-  column_inside = omega (arith, fits.0, fits.1, column_width, ap (λ n. start * n) column_width)
+  column_inside = omega (arith, row, fits, column_width, ap (λ n. start * n) column_width)
 
   abbrev first : ℕ
   first = k * 8 + start * (1 * 2 ^ left % 2 ^ 64)

@@ -67,10 +67,13 @@ column_halves t start left k some =
     twice zero h = absurd (omega arith)
     twice (suc n) h = rw (sub-one, pow-succ' 2 n) (omega arith)
 
--- so the two counts together are the column
-pub column_together : (t : List ℕ) (start left k : ℕ) → 1 ≤ left → {zero one : ℕ} → zero ≡ column t (start * 2) (left - 1) k
-    → one ≡ column t (start * 2 + 1) (left - 1) k → zero + one ≡ column t start left k
-column_together t start left k some z o = omega (arith, z, o, column_halves t start left k some)
+-- so the counts of the two, which have one bit fewer left, are together the column
+pub column_together : (t : List ℕ) (start left k : ℕ) → 1 ≤ left → {p l q m x y : ℕ} → p ≡ start * 2 + 0 → l ≡ left - 1 → q ≡ start * 2 + 1 → m ≡ left - 1
+    → x ≡ column t p l k → y ≡ column t q m k → (x ≡ column t (start * 2) (left - 1) k) × (x + y ≡ column t start left k)
+column_together t start left k some {x = x} {y = y} ep el eq em z o =
+    let e : x ≡ column t (start * 2) (left - 1) k = z ∙ ap₂ (λ b n. column t b n k) (omega (arith, ep)) el in
+    let f : y ≡ column t (start * 2 + 1) (left - 1) k = o ∙ ap₂ (λ b n. column t b n k) eq em in
+    (e, omega (arith, e, f, column_halves t start left k some))
 
 -- x is one of the n numbers from lo on
 abbrev in_range : (lo n x : ℕ) → Bool

@@ -1,9 +1,9 @@
 // The search by bits: 'The search goes down one bit at a time until D bits are fixed.'
 ghost use Rattle.std.specs.Prelude.{◌≡◌, ◌&&◌, ◌+◌, ◌-◌, ◌*◌, ◌^◌, ◌≤◌, ◌<◌, ltb, eqb};
-ghost use Rattle.board.specs.Limits.{deepest, longest_laxity};
-ghost use Rattle.search.specs.Inner.Start.{Start};
+ghost use Rattle.board.specs.Limits.{longest_laxity};
 ghost use Rattle.search.specs.Inner.Answers.{ZeroNext, NextStart, EndsAt, best_laxity};
 
+use crate::prefix::Prefix;
 use crate::{columns, tight};
 use counts::{CELLS, LAXITIES};
 use smallest::Best;
@@ -23,16 +23,18 @@ fn zero_within(best: Option<Best>, k: usize, zeros: u32) -> bool
 // Whether a job of the tight set of the jobs whose grade starts so has 0 for its next bit. The tight laxity is the best so far or a greater one, so the
 // answer is known as soon as a laxity is the best and a job within it has that bit.
 #[tactic(auto, unfolding(board::specs::Limits::longest_laxity, board::specs::Limits::deepest))]
-fn zero_next(counts: &[u16; CELLS], start: u8, left: u8) -> bool
-    requires { Start deepest start left × (1 ≤ left) }
-    ensures { ZeroNext counts.now start left result }
+fn zero_next(counts: &[u16; CELLS], prefix: Prefix) -> bool
+    requires { 1 ≤ prefix.left }
+    ensures { ZeroNext counts.now prefix.bits prefix.left result }
 {
+    let with_zero = prefix.with(0);
+    let with_one = prefix.with(1);
     let mut best = None;
     let mut within: u32 = 0;
     let mut zeros: u32 = 0;
     for k in 0..LAXITIES {
-        let zero = columns::column_of(counts, start * 2, left - 1, k);
-        let one = columns::column_of(counts, start * 2 + 1, left - 1, k);
+        let zero = columns::column_of(counts, with_zero, k);
+        let one = columns::column_of(counts, with_one, k);
         let here = zero + one;
         best = tight::better(best, within, here, k);
         zeros += zero;
@@ -44,27 +46,27 @@ fn zero_next(counts: &[u16; CELLS], start: u8, left: u8) -> bool
     false
 }
 
-// The start with its next bit: 0 where a job of the tight set has it, otherwise 1.
+// The prefix with its next bit: 0 where a job of the tight set has it, otherwise 1.
 #[tactic(auto, unfolding(board::specs::Limits::longest_laxity, board::specs::Limits::deepest))]
-fn next_start(counts: &[u16; CELLS], start: u8, left: u8) -> u8
-    requires { Start deepest start left × (1 ≤ left) }
-    ensures next_bit { NextStart counts.now start left result }
-    ensures within { (result + 1) * 2 ^ (left - 1) ≤ (start + 1) * 2 ^ left }
+fn next_prefix(counts: &[u16; CELLS], prefix: Prefix) -> Prefix
+    requires { 1 ≤ prefix.left }
+    ensures next_bit { NextStart counts.now prefix.bits prefix.left result.bits }
+    ensures left { result.left ≡ prefix.left - 1 }
+    ensures within { (result.bits + 1) * 2 ^ result.left ≤ (prefix.bits + 1) * 2 ^ prefix.left }
 {
-    if zero_next(counts, start, left) {
-        return start * 2;
+    if zero_next(counts, prefix) {
+        prefix.with(0)
+    } else {
+        prefix.with(1)
     }
-    start * 2 + 1
 }
 
-// The grade that the search from a start ends at: it goes on with the next bit, and one bit fewer left.
-pub(crate) fn descend(counts: &[u16; CELLS], start: u8, left: u8) -> u8
-    requires { Start deepest start left }
-    ensures { EndsAt counts.now start left result }
+// The grade that the search from a prefix ends at: it goes on with the next bit, and one bit fewer left.
+pub(crate) fn descend(counts: &[u16; CELLS], prefix: Prefix) -> u8
+    ensures { EndsAt counts.now prefix.bits prefix.left result }
 {
-    if left == 0 {
-        return start;
+    if prefix.left == 0 {
+        return prefix.bits;
     }
-    let next = next_start(counts, start, left);
-    descend(counts, next, left - 1)
+    descend(counts, next_prefix(counts, prefix))
 }

@@ -1,8 +1,6 @@
 // The search for the job that a slot bakes: one walk along the keys counts the board's jobs by laxity and grade; from these counts alone comes the smallest
 // excess of all jobs, which is the shortfall, the grade, down its bits, and the least laxity of that grade's jobs; then the lowest ticket of those with it.
 // It takes any board, and goes by the jobs that it sees there; on a sound board these are all.
-// A start of a grade is the number of its first bits, `start`, with `left` bits left: the grades that start so are the 2 ^ left from start * 2 ^ left
-// on. All of them are below (start + 1) * 2 ^ left, which is at most 2 ^ depth.
 #![tactic(auto)]
 
 ghost use Rattle.std.specs.Prelude.{◌≡◌};
@@ -19,10 +17,12 @@ ghost use Rattle.search.specs.Inner.Seen.{bakes_seen};
 use board::{Laxity, Slot};
 use counts::CELLS;
 use packing::Packed;
+use prefix::Prefix;
 use smallest::Best;
 
 mod columns;
 mod descent;
+mod prefix;
 mod room;
 mod soonest;
 mod tight;
@@ -53,7 +53,11 @@ fn choose(b: &Packed, counts: &[u16; CELLS], all: Option<Best>) -> Option<Chosen
     if all.is_none() {
         return None;
     }
-    let grade = descent::descend(counts, 0, b.head.depth);
+    let prefix = Prefix {
+        bits: 0,
+        left: b.head.depth,
+    };
+    let grade = descent::descend(counts, prefix);
     let laxity = soonest::least_laxity(counts, grade)?;
     let last = Slot(b.head.slot.0 + laxity.0 - 1);
     let ticket = smallest::lowest_ticket(b, packing::key(last, grade));

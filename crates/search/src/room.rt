@@ -2,6 +2,7 @@
 ghost use Rattle.search.specs.Inner.Answers.{PromiseFor, laxity_in};
 
 use crate::columns;
+use crate::prefix::Prefix;
 use board::{Board, Laxity};
 use counts::{CELLS, LAXITIES};
 
@@ -11,10 +12,14 @@ use counts::{CELLS, LAXITIES};
 pub(crate) fn after_full(counts: &[u16; CELLS]) -> Option<Laxity>
     ensures { PromiseFor counts.now (laxity_in result) }
 {
+    let all = Prefix {
+        bits: 0,
+        left: Board::DEEPEST as u8,
+    };
     let mut full: u32 = 0;
     let mut within: u32 = 0;
     for k in 0..LAXITIES {
-        within += columns::column_of(counts, 0, Board::DEEPEST as u8, k);
+        within += columns::column_of(counts, all, k);
         let laxity = k as u32 + 1;
         if laxity < within {
             return None;

@@ -5,6 +5,7 @@ ghost use Rattle.search.specs.Inner.Start.{Start};
 ghost use Rattle.search.specs.Inner.Answers.{LeastOf, laxity_in};
 
 use crate::columns;
+use crate::prefix::Prefix;
 use board::Laxity;
 use counts::{CELLS, LAXITIES};
 
@@ -14,8 +15,12 @@ pub(crate) fn least_laxity(counts: &[u16; CELLS], grade: u8) -> Option<Laxity>
     requires { Start deepest grade 0 }
     ensures { LeastOf counts.now grade (laxity_in result) }
 {
+    let prefix = Prefix {
+        bits: grade,
+        left: 0,
+    };
     for k in 0..LAXITIES {
-        if columns::column_of(counts, grade, 0, k) != 0 {
+        if columns::column_of(counts, prefix, k) != 0 {
             return Some(Laxity(k as u32 + 1));
         }
     }

@@ -4,6 +4,7 @@ ghost use Rattle.board.specs.Limits.{deepest, longest_laxity};
 ghost use Rattle.search.specs.Inner.Answers.{TightOf, best_with};
 
 use crate::columns;
+use crate::prefix::Prefix;
 use board::{Board, Laxity};
 use counts::{CELLS, LAXITIES};
 use smallest::Best;
@@ -31,10 +32,14 @@ pub(crate) fn better(best: Option<Best>, before: u32, here: u32, k: usize) -> Op
 pub(crate) fn tight(counts: &[u16; CELLS]) -> Option<Best>
     ensures { TightOf counts.now 0 deepest result }
 {
+    let all = Prefix {
+        bits: 0,
+        left: Board::DEEPEST as u8,
+    };
     let mut best = None;
     let mut within: u32 = 0;
     for k in 0..LAXITIES {
-        let here = columns::column_of(counts, 0, Board::DEEPEST as u8, k);
+        let here = columns::column_of(counts, all, k);
         best = better(best, within, here, k);
         within += here;
     }

@@ -11,6 +11,7 @@ use crate::{GIVEN_UP_ENDS, GRADE_ENDS, SLOT_ENDS, TICKET_ENDS};
 use page::{Figures, Page};
 
 // Puts the line of a slot; where it ends.
+// No plainer as a loop over cells: its contract would have to ask for columns that rise to the line's last.
 fn put_slot_line(f: Figures, out: &mut [u8], at: usize) -> usize
     requires { at + line_length ≤ length out.old }
     ensures { PutWithin line_length (slot_line (figures_held f)) out.old at result out.new }

@@ -37,7 +37,8 @@ pub fn shortfall_of(best: Option<Best>) -> u32
     }
 }
 
-// The lowest ticket of the jobs with this key, if there is one.
+// The lowest ticket of the jobs with this key, if there is one. A number and no Option, which was tried and takes four times as long: the walk then has a
+// branch for each place. Where there is none it is u32::MAX, which a job can have too.
 pub fn lowest_ticket(b: &Packed, key: u32) -> u32
     ensures { LowestOf (in_use b.now.head.count) b.now.keys b.now.tickets key result }
 {

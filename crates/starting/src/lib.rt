@@ -1,6 +1,8 @@
 // How the programs start: they take no arguments.
 #![tactic(auto)]
 
+ghost use Rattle.std.specs.Prelude.{◌≢◌};
+
 use std::env::FillError;
 use std::rt::Env;
 
@@ -15,4 +17,15 @@ pub fn has_argument<R: Env + Eprint>(rt: &R, name: &str, input: &str) -> bool {
     }
     let _ = eprintln!(rt; "{name}: takes no arguments; it reads {input} on standard input");
     true
+}
+
+// Runs the program, unless it was given an argument; the exit status.
+pub fn start<R: Env + Eprint, F: FnOnce() -> u8>(rt: &R, name: &str, input: &str, run: F) -> u8
+    requires { F.IsAlwaysCallable run }
+    ensures { result ≢ 2 → F.post run result }
+{
+    if has_argument(rt, name, input) {
+        return WRONG_ARGUMENT;
+    }
+    run()
 }

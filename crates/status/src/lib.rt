@@ -44,7 +44,7 @@ impl Outcome {
     }
 }
 
-// The exit status of a run that ended so.
+// The exit status of a run that ended so. (A `From` is no plainer: the two arms are those of `status`, the definition.)
 #[tactic(auto, unfolding(crate::specs::Status::status))]
 pub fn status_of(ended: Ended) -> u8
     ensures { result ≡ status ended }

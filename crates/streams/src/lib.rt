@@ -51,7 +51,8 @@ fn try_read<R: Clock, I: Read>(rt: &R, input: &mut I, buf: &mut [u8]) -> io::Res
     input.read(buf)
 }
 
-// Writes once, or again where that is to be tried; how many bytes were taken.
+// Writes once, or again where that is to be tried; how many bytes were taken. (One loop for both calls is no plainer: it takes a closure that holds the
+// buffer, and a clause that each call of it keeps the buffer's length.)
 fn try_write<R: Print + Clock>(rt: &R, buf: &[u8]) -> io::Result<usize>
     ensures { IfOk result (λ n. n ≤ length buf.now) }
 {

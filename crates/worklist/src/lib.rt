@@ -34,6 +34,7 @@ impl Collected {
 }
 
 // The limit of the definitions is the constant of `Collected`.
+#[tactic(auto, unfolding(crate::specs::Statements::most_read, lines::specs::Reading::longest_line))]
 fn limits()
     ensures { Collected.MOST_READ ≡ most_read }
 {}
@@ -44,6 +45,7 @@ pub fn statements()
 {}
 
 // No window.
+#[tactic(auto, unfolding(matching::specs::Windows::no_window))]
 fn blank() -> Window
     ensures { result ≡ no_window }
 {
@@ -100,6 +102,7 @@ pub fn collect(input: &[u8]) -> Collected
     let windows = [blank(); Jobs::MOST];
     let mut jobs = Jobs { count: 0, windows };
     let mut at: usize = 0;
+    // Not a `for`, which is no plainer: `split_inclusive` leaves each line its line end, and `split` has one more line behind the last line end.
     while at < input.len() && jobs.count <= Jobs::MOST {
         let to = lists::next_byte(input, at, b'\n');
         match read_window(&input[at..to]) {

@@ -6,7 +6,7 @@ use Rattle.admitting.proofs.admit.Goals as goal
 pub returns-then-not-is_sound : goal.returns-then-not-is_sound
 returns-then-not-is_sound c =
     let a = c.args in
-    admitting_unsound a.b a.ticket a.laxity.0 a.grade c.refused.result (sym c.is_sound.ensures ∙ c.if-not-is_sound.true) c.refused.ensures
+    rw c.number.ensures (admitting_unsound a.b a.ticket a.laxity.0 a.grade (sym c.is_sound.ensures ∙ c.if-not-is_sound.true))
 
 pub returns-in-Ok : goal.returns-in-Ok
 returns-in-Ok c =
@@ -16,4 +16,5 @@ returns-in-Ok c =
 pub returns-in-Err : goal.returns-in-Err
 returns-in-Err c =
     let a = c.args in
-    c.refused-in-Err.ensures ∙ c.in-Err.ensures ∙ admitting_on_sound a.b a.ticket a.laxity.0 a.grade (sym c.is_sound.ensures ∙ c.if-not-is_sound.false)
+    rw c.number-in-Err.ensures
+    (c.in-Err.ensures ∙ admitting_on_sound a.b a.ticket a.laxity.0 a.grade (sym c.is_sound.ensures ∙ c.if-not-is_sound.false))

@@ -8,7 +8,7 @@ use Rattle.printers.proofs.print_lines.Goals as goal
 pub returns : goal.returns
 returns c k e h =
     let a = c.args in
-    let fits = answer_fits (length a.tickets.now) (length a.grades.now) a.at (length a.out.now) in
-    printed_lines k a.answer a.tickets.now a.grades.now e fits c.number_after-next.result
-    (rw h (c.number_after-next.ensures ∙ ap (λ (b : Bool). cond b (next_number a.number) a.number) c.answer_fits-fits.ensures))
+    let fits = answer_fits (length a.given_up.tickets.now) (length a.given_up.grades.now) a.at (length a.out.now) in
+    printed_lines k a.answer a.given_up.tickets.now a.given_up.grades.now e fits c.number_after.result
+    (rw h (c.number_after.ensures ∙ ap (λ (b : Bool). cond b (next_number a.number.now) a.number.now) c.answer_fits-fits.ensures))
     (rw h c.print_answer-end.ensures)

@@ -11,8 +11,8 @@ use Rattle.search.proofs.choose.Goals as goal
 pub returns-then-is_none : goal.returns-then-is_none
 returns-then-is_none c = nothing _ c.requires.counted _ c.requires.tight c.if-is_none.ensures
 
-pub descend-grade-requires : goal.descend-grade-requires
-descend-grade-requires c =
+pub invariant_of-prefix : goal.invariant_of-prefix
+invariant_of-prefix c =
     omega (arith, pow_mono (shallow _ c.requires.counted _ c.requires.tight c.if-is_none.ensures))
 
 pub least_laxity-requires : goal.least_laxity-requires

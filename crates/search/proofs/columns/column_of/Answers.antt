@@ -7,25 +7,25 @@ use Rattle.search.proofs.Cells.{cell_from, column_short, column_narrow, column_i
 use Rattle.search.proofs.columns.column_of.Goals as goal
 
 pub overflow_shl-n : goal.overflow_shl-n
-overflow_shl-n c = column_short c.args.start c.args.left c.args.k c.requires
+overflow_shl-n c = column_short c.args.prefix.bits c.args.prefix.left c.args.k c.requires c.args.prefix.in_range
 
 pub overflow_mul-first : goal.overflow_mul-first
-overflow_mul-first c = omega (arith, column_inside c.args.start c.args.left c.args.k c.requires)
+overflow_mul-first c = omega (arith, column_inside c.args.prefix.bits c.args.prefix.left c.args.k c.requires c.args.prefix.in_range)
 
 pub overflow_mul-first-2 : goal.overflow_mul-first-2
-overflow_mul-first-2 c = omega (arith, column_inside c.args.start c.args.left c.args.k c.requires)
+overflow_mul-first-2 c = omega (arith, column_inside c.args.prefix.bits c.args.prefix.left c.args.k c.requires c.args.prefix.in_range)
 
 pub overflow_add-first : goal.overflow_add-first
-overflow_add-first c = omega (arith, column_inside c.args.start c.args.left c.args.k c.requires)
+overflow_add-first c = omega (arith, column_inside c.args.prefix.bits c.args.prefix.left c.args.k c.requires c.args.prefix.in_range)
 
 pub overflow_add-count-items : goal.overflow_add-count-items
-overflow_add-count-items c = omega (arith, column_inside c.args.start c.args.left c.args.k c.requires)
+overflow_add-count-items c = omega (arith, column_inside c.args.prefix.bits c.args.prefix.left c.args.k c.requires c.args.prefix.in_range)
 
 pub offset_bounds-counts-first : goal.offset_bounds-counts-first
-offset_bounds-counts-first c = omega (arith, column_inside c.args.start c.args.left c.args.k c.requires)
+offset_bounds-counts-first c = omega (arith, column_inside c.args.prefix.bits c.args.prefix.left c.args.k c.requires c.args.prefix.in_range)
 
 pub slice_bounds-count-items-end : goal.slice_bounds-count-items-end
-slice_bounds-count-items-end c = omega (arith, column_inside c.args.start c.args.left c.args.k c.requires)
+slice_bounds-count-items-end c = omega (arith, column_inside c.args.prefix.bits c.args.prefix.left c.args.k c.requires c.args.prefix.in_range)
 
 pub loop-count-init : goal.loop-count-init
 unfolding sum
@@ -35,21 +35,21 @@ pub overflow_add-total : goal.overflow_add-total
 unfolding deepest
 overflow_add-total c =
     let a = c.args in
-    omega (arith, all_cells a.start a.left a.k c.requires a.counts.now (search rules), column_narrow a.start a.left a.k c.requires)
+    omega (arith, all_cells a.prefix.bits a.prefix.left a.k c.requires a.prefix.in_range a.counts.now (search rules), column_narrow a.prefix.bits a.prefix.left a.k c.requires a.prefix.in_range)
 
 pub loop-count-preserved : goal.loop-count-preserved
 loop-count-preserved c =
     let a = c.args in
     let i = c.loop-count.count-index in
-    let v = cell_at a.start a.left a.k c.requires a.counts.now i c.loop-count-test.true in
+    let v = cell_at a.prefix.bits a.prefix.left a.k c.requires a.prefix.in_range a.counts.now i c.loop-count-test.true in
     record {
       bounded = omega arith;
-      exact = omega (arith, v, sum_more (cell_from a.counts.now a.start a.left a.k) i, c.loop-count.invariant.exact);
+      exact = omega (arith, v, sum_more (cell_from a.counts.now a.prefix.bits a.prefix.left a.k) i, c.loop-count.invariant.exact);
     }
 
 pub returns : goal.returns
 unfolding column deepest
 returns c =
     let a = c.args in
-    let e : c.loop-count.count-index ≡ 2 ^ a.left = omega (arith, all_cells a.start a.left a.k c.requires a.counts.now (search rules)) in
-    (c.loop-count.invariant.exact ∙ ap (sum (cell_from a.counts.now a.start a.left a.k)) e, omega (arith, e, column_narrow a.start a.left a.k c.requires))
+    let e : c.loop-count.count-index ≡ 2 ^ a.prefix.left = omega (arith, all_cells a.prefix.bits a.prefix.left a.k c.requires a.prefix.in_range a.counts.now (search rules)) in
+    (c.loop-count.invariant.exact ∙ ap (sum (cell_from a.counts.now a.prefix.bits a.prefix.left a.k)) e, omega (arith, e, column_narrow a.prefix.bits a.prefix.left a.k c.requires a.prefix.in_range))

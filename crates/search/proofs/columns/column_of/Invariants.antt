@@ -7,5 +7,5 @@ abbrev pub invariant-loop-count : goal.invariant-loop-count
 invariant-loop-count l =
     record {
       bounded : l.total ≤ (2 ^ 16 - 1) * l.count-index;
-      exact : l.total ≡ sum (cell_from l.counts l.start l.left l.k) l.count-index;
+      exact : l.total ≡ sum (cell_from l.counts l.fn.prefix.bits l.fn.prefix.left l.k) l.count-index;
     }

@@ -1,4 +1,4 @@
 use Rattle.search.proofs.descent.+descend.Given as goal
 
 abbrev pub decreases-descend : goal.decreases-descend
-decreases-descend l = l.left
+decreases-descend l = l.prefix.left

@@ -8,5 +8,5 @@ invariant-loop-k l =
     record {
       within_few : l.within ≤ 2 ^ (17 + deepest) * l.k;
       zeros_few : l.zeros ≤ 2 ^ (16 + deepest) * l.k;
-      zero : ZeroTo l.counts l.start l.left l.k l.best l.within l.zeros;
+      zero : ZeroTo l.counts l.fn.prefix.bits l.fn.prefix.left l.k l.best l.within l.zeros;
     }
