@@ -6,7 +6,6 @@ ghost use Rattle.board.specs.Limits.{longest_laxity, most_in_slot, places_held, 
 ghost use Rattle.board.specs.Held.{blank};
 ghost use Rattle.board.specs.Open.{empty_board, opened_as, opened};
 ghost use Rattle.board.specs.Tally.{tally_kinds, tally_grades, tally_most};
-ghost use Rattle.board.specs.Events.{admitted_kind, baked_kind, given_up_kind, withdrawn_kind};
 
 pub mod kind;
 pub mod refusal;
@@ -179,15 +178,7 @@ pub struct Tally {
 }
 
 impl Tally {
-    // The kinds of events, and how many there are.
-    pub const ADMITTED: u32 = 0;
-
-    pub const BAKED: u32 = 1;
-
-    pub const GIVEN_UP: u32 = 2;
-
-    pub const WITHDRAWN: u32 = 3;
-
+    // How many kinds of events there are.
     pub const KINDS: usize = 4;
 
     // Grades of the greatest depth.
@@ -214,10 +205,6 @@ fn limits()
     ensures places { Board.PLACES ≡ places_held }
     ensures last_slot { Board.LAST_SLOT ≡ last_slot }
     ensures deepest { Board.DEEPEST ≡ deepest }
-    ensures admitted { Tally.ADMITTED ≡ admitted_kind }
-    ensures baked { Tally.BAKED ≡ baked_kind }
-    ensures given_up { Tally.GIVEN_UP ≡ given_up_kind }
-    ensures withdrawn { Tally.WITHDRAWN ≡ withdrawn_kind }
     ensures kinds { Tally.KINDS ≡ tally_kinds }
     ensures grades { Tally.GRADES ≡ tally_grades }
     ensures most { Tally.MOST ≡ tally_most }

@@ -2,13 +2,12 @@
 use mathlib.Core.Path.{refl}
 use Rattle.board.specs.Limits.{longest_laxity, most_in_slot, places_held, last_slot, deepest}
 use Rattle.board.specs.Tally.{tally_kinds, tally_grades, tally_most}
-use Rattle.board.specs.Events.{admitted_kind, baked_kind, given_up_kind, withdrawn_kind}
 use Rattle.board.proofs.limits.Statement.{statement}
 use Rattle.board.proofs.limits.Tie as tie
 
 returns : tie.Need-returns
-unfolding longest_laxity most_in_slot places_held last_slot deepest admitted_kind baked_kind given_up_kind withdrawn_kind tally_kinds tally_grades tally_most
-returns c = (refl, (refl, (refl, (refl, (refl, (refl, (refl, (refl, (refl, (refl, (refl, refl)))))))))))
+unfolding longest_laxity most_in_slot places_held last_slot deepest tally_kinds tally_grades tally_most
+returns c = (refl, (refl, (refl, (refl, (refl, (refl, (refl, refl)))))))
 
 pub limits_spec : {M : Type 1} → statement M
 limits_spec = tie.close (tie.spec returns)
