@@ -15,17 +15,17 @@ pub use refusal::Refusal;
 
 // A number of slots counted from the present one: 01's wait, 000's laxity.
 #[repr(C)]
-#[derive(Clone, Copy)]
+#[derive(Clone, Copy, PartialEq, Eq)]
 pub struct Laxity(pub u32);
 
 // The number of a slot in the day book. Never compared with a laxity.
 #[repr(C)]
-#[derive(Clone, Copy)]
+#[derive(Clone, Copy, PartialEq, Eq)]
 pub struct Slot(pub u32);
 
 // A place of the board: a job, which 01 calls a rack, or all zero.
 #[repr(C)]
-#[derive(Clone, Copy)]
+#[derive(Clone, Copy, PartialEq, Eq)]
 pub struct Place {
     pub ticket: u32,
     pub admitted: Slot,
@@ -124,7 +124,7 @@ impl Board {
     }
 }
 
-// What opening answers. Every answer has 01's number of a refusal, or 0.
+// What opening answers. Every answer here is a struct of C: 01's number of a refusal, or 0, stands beside the values.
 #[repr(C)]
 #[derive(Clone, Copy)]
 pub struct Opened {
@@ -199,6 +199,7 @@ pub struct Counted {
 }
 
 // The limits of the definitions are the board's constants.
+#[tactic(auto, unfolding(crate::specs::Limits::longest_laxity, crate::specs::Limits::most_in_slot, crate::specs::Limits::places_held, crate::specs::Limits::last_slot, crate::specs::Limits::deepest, crate::specs::Tally::tally_kinds, crate::specs::Tally::tally_grades, crate::specs::Tally::tally_most))]
 fn limits()
     ensures longest_laxity { Board.LONGEST_LAXITY ≡ longest_laxity }
     ensures most_in_slot { Board.MOST_IN_SLOT ≡ most_in_slot }

@@ -1,2 +1,3 @@
 pub mod OnPage
 pub mod Handed
+pub mod Refused

@@ -12,6 +12,7 @@ ghost use Rattle.soundness.specs.Inner.Walk.{in_limits, nothing_seen, sharing_wi
 use board::{Board, Place, Slot};
 
 // The depth, the slot and the count are in their limits.
+#[tactic(auto, unfolding(board::specs::Limits::places_held, board::specs::Limits::last_slot, board::specs::Limits::deepest, lists::specs::Select::every, crate::specs::Inner::Walk::limit_tests, crate::specs::Inner::Walk::in_limits))]
 pub fn in_limits(depth: u8, slot: Slot, count: usize) -> bool
     ensures { result ≡ in_limits depth slot.0 count }
 {
@@ -22,6 +23,7 @@ pub fn in_limits(depth: u8, slot: Slot, count: usize) -> bool
 }
 
 // From the admitted slot to the last a job has no more slots than the longest laxity. In 64 bits the sum cannot wrap.
+#[tactic(auto, unfolding(board::specs::Limits::longest_laxity, crate::specs::Inner::Walk::is_short))]
 fn is_short(x: Place) -> bool
     ensures { result ≡ is_short x }
 {
@@ -53,11 +55,12 @@ impl Seen {
     }
 
     // How many jobs in a row, the next one included, share its admitted slot.
+    #[tactic(auto, unfolding(board::specs::Limits::places_held, crate::specs::Inner::Walk::sharing_with))]
     fn sharing_with(self, x: Place) -> usize
         requires { self.sharing ≤ places_held }
         ensures { result ≡ sharing_with self x }
     {
-        if x.admitted.0 == self.admitted.0 {
+        if x.admitted == self.admitted {
             self.sharing + 1
         } else {
             1
@@ -65,6 +68,7 @@ impl Seen {
     }
 
     // With the next job.
+    #[tactic(auto, unfolding(board::specs::Limits::most_in_slot, lists::specs::Select::every, crate::specs::Inner::Walk::next_tests, crate::specs::Inner::Walk::well_with, crate::specs::Inner::Walk::seen_with))]
     fn with(self, slot: Slot, grades: u32, x: Place) -> Seen
         requires { self.sharing ≤ places_held }
         ensures { result ≡ seen_with slot.0 grades self x }
@@ -103,6 +107,7 @@ fn jobs_sound(b: &Board) -> bool
 
 // The place is all zero. Field by field, as `x == Place::blank()` was tried and is slower: it branches at each field, and a
 // board without jobs takes half as long again.
+#[tactic(auto, unfolding(board::specs::Sound::is_blank, lists::specs::Select::every))]
 fn is_blank(x: Place) -> bool
     ensures { result ≡ is_blank x }
 {

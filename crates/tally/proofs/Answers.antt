@@ -1,24 +1,11 @@
 -- What `counted` is in each of the two refusals; where none is given, board's `taken` says it.
 use mathlib.Core.Path.{◌≡◌}
 use Prim.Native.Nat.{ℕ, ◌≤◌, ◌<◌}
-use native.Mathlib.Omega.{arith}
 use borrow.Author.Tests.{lt-leb, le-leb}
 use Rattle.board.specs.declared.Tally.{Tally}
-use Rattle.board.specs.declared.kind.Kind.{Kind}
-use Rattle.board.specs.declared.kind.Kind.TheVariants.{Admitted, Baked, GivenUp, Withdrawn}
 use Rattle.board.specs.Rows.{◌if◌, first_given}
-use Rattle.board.specs.Events.{admitted_kind, baked_kind, given_up_kind, withdrawn_kind}
-use Rattle.board.specs.Kinds.{kind_number}
 use Rattle.board.specs.Tally.{tally_kinds, tally_grades, tally_most, count_at, tally_number, counted_if, counted}
 use Rattle.board.proofs.Tallies.CountAt.{Cell}
-
--- each kind has a number
-pub kind_inside : (k : Kind) → kind_number k < tally_kinds
-unfolding tally_kinds admitted_kind baked_kind given_up_kind withdrawn_kind
-kind_inside Admitted = omega arith
-kind_inside Baked = omega arith
-kind_inside GivenUp = omega arith
-kind_inside Withdrawn = omega arith
 
 pub no_such_kind : (t : Tally) (k g : ℕ) → tally_kinds ≤ k → record { refusal = 9; tally = t } ≡ counted t k g
 unfolding counted counted_if tally_number first_given ◌if◌

@@ -9,6 +9,7 @@ ghost use Rattle.board.specs.Tally.{zero_tally, counted};
 use board::{Counted, Kind, Refusal, Tally};
 
 // A new tally.
+#[tactic(auto, unfolding(board::specs::Tally::tally_kinds, board::specs::Tally::tally_grades, board::specs::Tally::zero_tally))]
 pub fn zero() -> Tally
     ensures { result ≡ zero_tally }
 {
@@ -18,7 +19,7 @@ pub fn zero() -> Tally
 }
 
 // Takes in one event of this kind, with a grade. Rows 9 and 10: the tally is then as before.
-#[tactic(auto, using(crate::proofs::Answers::kind_inside), unfolding(board::specs::Tally::tally_kinds))]
+#[tactic(auto, using(board::proofs::Tallies::Kinds::kind_below), unfolding(board::specs::Tally::tally_kinds))]
 pub fn take_in(tally: &mut Tally, kind: Kind, grade: u32) -> Result<(), Refusal>
     ensures { record { refusal = refusal_number result; tally = tally.new } ≡ counted tally.old (kind_number kind) grade }
 {

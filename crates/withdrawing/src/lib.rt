@@ -46,7 +46,7 @@ pub fn withdraw_by_rows(b: &mut Board, ticket: u32) -> Result<u8, Refusal>
         return Err(Refusal::BookEnded);
     }
     let job = job_with(b, ticket).ok_or(Refusal::NotToWithdraw)?;
-    if job.admitted.0 == b.slot.0 {
+    if job.admitted == b.slot {
         return Err(Refusal::NotToWithdraw);
     }
     *b = without(*b, ticket);

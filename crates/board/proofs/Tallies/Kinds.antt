@@ -2,9 +2,20 @@
 use mathlib.Core.Path.{◌≡◌, sym, subst}
 use Prim.Native.Nat.{ℕ, zero, suc, ◌<◌}
 use native.Mathlib.Omega.{arith}
+use Rattle.board.specs.declared.kind.Kind.{Kind}
+use Rattle.board.specs.declared.kind.Kind.TheVariants.{Admitted, Baked, GivenUp, Withdrawn}
+use Rattle.board.specs.Kinds.{kind_number}
 use Rattle.board.specs.Tally.{tally_kinds, tally_grades}
 use Rattle.board.specs.Events.{admitted_kind, baked_kind, given_up_kind, withdrawn_kind, Event}
 use Rattle.board.proofs.Tallies.CountAt.{Cell}
+
+-- each kind by name has a number below
+pub kind_below : (k : Kind) → kind_number k < tally_kinds
+unfolding tally_kinds admitted_kind baked_kind given_up_kind withdrawn_kind
+kind_below Admitted = omega arith
+kind_below Baked = omega arith
+kind_below GivenUp = omega arith
+kind_below Withdrawn = omega arith
 
 pub each_kind : (P : ℕ → Type 0) → P admitted_kind → P baked_kind → P given_up_kind → P withdrawn_kind → (k g : ℕ) → Cell k g → P k
 unfolding admitted_kind baked_kind given_up_kind withdrawn_kind tally_kinds

@@ -1,5 +1,6 @@
 -- Rows 3 and 17, and then the board without the job found.
 use Rattle.std.proofs.Common.{◌≡◌, sym, ◌∙◌}
+use borrow.Author.Tests.{eqb-true, eqb-false}
 use Rattle.std.proofs.lemmas.Result.{err_from_is_err_and}
 use Rattle.board.specs.declared.refusal.Refusal.TheVariants.{NotToWithdraw}
 use Rattle.board.specs.Limits.{last_slot}
@@ -22,13 +23,13 @@ returns-in_err-job c =
     let is : c.in_err-job.field-0.0 ≡ NotToWithdraw = cc in
     rw (p.1, p.2, is) (not_there a.b.now a.ticket c.if-b.false (not_sought a.ticket (used a.b.now) (sym c.job_with.ensures ∙ e.ok_part)))
 
-pub returns-then-job-b : goal.returns-then-job-b
+pub returns-then-eq : goal.returns-then-eq
 unfolding last_slot job_in held
-returns-then-job-b c =
+returns-then-eq c =
     let a = c.args in
     let j = c.in_ok-job.job in
     of_this_slot a.b.now a.ticket c.if-b.false (job_in j) (sought_is a.ticket (used a.b.now) j (sym c.job_with.ensures ∙ c.in_ok-job.ensures.ok_part))
-    c.if-job-b.true
+    (eqb-true _ _ (sym c.if-eq.ensures))
 
 pub returns : goal.returns
 unfolding last_slot job_in held
@@ -37,4 +38,4 @@ returns c =
     let j = c.in_ok-job.job in
     rw c.without.ensures
     (taken_off a.b.now a.ticket c.if-b.false (job_in j) (sought_is a.ticket (used a.b.now) j (sym c.job_with.ensures ∙ c.in_ok-job.ensures.ok_part))
-    c.if-job-b.false)
+    (eqb-false _ _ (sym c.if-eq.ensures)))
