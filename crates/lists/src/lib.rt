@@ -4,7 +4,7 @@
 ghost use Rattle.std.specs.Prelude.{◌≡◌, ◌==◌, ◌+◌, min, drop, position};
 ghost use Rattle.lists.specs.Before.{before};
 
-// The lesser of two numbers.
+// The lesser of two numbers. What may not change: `greater` and `second` (must-fail) are edits of it.
 pub fn lesser(x: usize, y: usize) -> usize
     ensures { result ≡ min x y }
 {

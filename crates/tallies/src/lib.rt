@@ -14,7 +14,7 @@ use board::{Kind, Tally};
 pub const TALLY_ROOM: usize = Tally::GRADES * printing::LINE_ROOM;
 
 // A count of the tally.
-#[tactic(auto, using(crate::proofs::Cells::kind_below), unfolding(board::specs::Tally::tally_kinds, board::specs::Tally::tally_grades, board::specs::Tally::cell, board::specs::Tally::count_at))]
+#[tactic(auto, using(board::proofs::Tallies::Kinds::kind_below), unfolding(board::specs::Tally::tally_kinds, board::specs::Tally::tally_grades, board::specs::Tally::cell, board::specs::Tally::count_at))]
 fn count_of(t: Tally, kind: Kind, grade: usize) -> u64
     requires { grade < tally_grades }
     ensures { result ≡ count_at t (kind_number kind) grade }

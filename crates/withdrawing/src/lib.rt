@@ -21,7 +21,7 @@ fn job_with(b: &Board, ticket: u32) -> Option<Place>
         .find(|p| p.ticket == ticket)
 }
 
-// The board without the job that has this ticket.
+// The board without the job that has this ticket. By value: behind a `&mut` the proof does not get the length of the places.
 fn without(b: Board, ticket: u32) -> Board
     ensures { result ≡ without_ticket b ticket }
 {
