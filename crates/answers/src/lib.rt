@@ -21,7 +21,8 @@ pub struct Closing {
 }
 
 // The jobs that an answer gives up: the ticket of each, and its grade.
-// The C interface: two slices, since C lends them so (`oven_close`). No invariant says that they are as long: what is printed is said of any two.
+// Two slices, since a closing writes tickets and grades into two lists that it is lent. No invariant says that they are as long: what is printed is said of any
+// two.
 #[derive(Clone, Copy)]
 pub struct GivenUp<'a> {
     pub tickets: &'a [u32],

@@ -1,5 +1,5 @@
-// A board whose jobs lie in three arrays of numbers. A function can be lent it and write it in place, where a board passes by value, and a walk along the keys
-// reads nothing else. The key of a job is its last slot and its grade in one number.
+// A board whose jobs lie in three arrays of numbers. A walk along the keys reads nothing else, since they lie together. The key of a job is its last slot and
+// its grade in one number.
 #![tactic(auto)]
 
 ghost use Rattle.std.specs.Prelude.{◌≡◌};

@@ -43,7 +43,7 @@ pub struct Baked {
     pub counts: [u16; CELLS],
 }
 
-// The job that the slot bakes, by the counts of the jobs seen and the tight laxity of all of them: of the grade that the search ends at, the soonest job. It
+// The job that the slot bakes, by the counts of the jobs seen; `all` says whether there are any. Of the grade that the search ends at it is the soonest job, which
 // is in the no-regret set, since the tight laxity of the grade's jobs is one that some of them has, and no laxity is less than that of the soonest.
 fn choose(b: &Packed, counts: &[u16; CELLS], all: Option<Best>) -> Option<Chosen>
     requires counted { Counted (slot_of (board_of b.now)) (seen (board_of b.now)) counts.now }

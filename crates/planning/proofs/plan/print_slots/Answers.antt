@@ -16,19 +16,17 @@ unfolding letter_H line_numbers room
 loop-i-preserved c =
     let p = c.print_at-end in
     let l = c.loop-i in
-    let a = c.args in
-    let n = slots_next a.slots a.count l.i (omega arith) (omega (arith, c.requires.0)) in
-    let q = line_put letter_H ((l.i + 1) ∷ get_or a.slots l.i 0 ∷ []) (omega arith) (omega (arith, c.requires.1, l.invariant.1, l.invariant.2)) p.ensures in (
-      omega arith,
-      omega (arith, q.within, l.invariant.1),
-      p.auto.out ∙ l.invariant.2,
-      fewer_left _ _ l.out l.end _ _ (rw n at l.invariant.3) (omega arith) q.end q.bytes,
+    let slots = c.args.slots.now in
+    let n = slots_next slots l.i c.loop-i-test.true in
+    let q = line_put letter_H ((l.i + 1) ∷ get_or slots l.i 0 ∷ []) (omega arith) (omega (arith, c.requires.0, c.requires.1, l.invariant.0, l.invariant.1)) p.ensures in (
+      omega (arith, q.within, l.invariant.0),
+      p.auto.out ∙ l.invariant.1,
+      fewer_left _ _ l.out l.end _ _ (rw n at l.invariant.2) (omega arith) q.end q.bytes,
     )
 
 pub returns : goal.returns
 unfolding room
 returns c =
-    let a = c.args in
     let l = c.loop-i in
-    let n = none_left _ _ (rw (slots_done a.slots a.count l.i (omega arith)) at l.invariant.3) in
-    record { end = n.0; within = omega arith; bytes = n.1 }
+    let n = none_left _ _ (rw (slots_done c.args.slots.now l.i c.loop-i-test.false) at l.invariant.2) in
+    record { end = n.0; within = omega (arith, c.requires.0); bytes = n.1 }
