@@ -77,6 +77,7 @@ pub fn admit_in_limits(
 }
 
 // Admits a job: 01's rows 2 to 7 in order, then the job in the first free place.
+// The answer has a number beside its slot and board: it is the C interface's.
 pub fn admit(b: Board, ticket: u32, laxity: Laxity, grade: u32) -> Admitted
     ensures { result ≡ admitted b ticket laxity.0 grade }
 {

@@ -4,6 +4,6 @@
 use std::process::ExitCode;
 
 fn main(rt: HostRuntime) -> ExitCode {
-    let status = starting::start(&rt, "oven", "a day", || program::oven_run(&rt));
-    ExitCode::from(status)
+    let wrong = starting::wrong_argument(&rt, "oven", "a day");
+    ExitCode::from(wrong.unwrap_or_else(|| program::oven_run(&rt)))
 }

@@ -4,6 +4,6 @@
 use std::process::ExitCode;
 
 fn main(rt: HostRuntime) -> ExitCode {
-    let status = starting::start(&rt, "hindsight", "a list of racks", || planning::hindsight_run(&rt));
-    ExitCode::from(status)
+    let wrong = starting::wrong_argument(&rt, "hindsight", "a list of racks");
+    ExitCode::from(wrong.unwrap_or_else(|| planning::hindsight_run(&rt)))
 }

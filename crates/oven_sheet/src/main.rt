@@ -4,6 +4,6 @@
 use std::process::ExitCode;
 
 fn main(rt: HostRuntime) -> ExitCode {
-    let status = starting::start(&rt, "sheet", "a day", || program::sheet_run(&rt));
-    ExitCode::from(status)
+    let wrong = starting::wrong_argument(&rt, "sheet", "a day");
+    ExitCode::from(wrong.unwrap_or_else(|| program::sheet_run(&rt)))
 }

@@ -18,6 +18,7 @@ fn laxity_allowed(laxity: Laxity) -> bool
 }
 
 // The first of 01's rows 3 to 7 that fails. `taken` jobs were admitted in the slot.
+// Its seven parameters stay: docs/DECISIONS.md names this public function, so none may become part of a narrower type.
 pub fn first_row(
     slot: Slot,
     highest: u32,

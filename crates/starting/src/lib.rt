@@ -1,7 +1,7 @@
 // How the programs start: they take no arguments.
 #![tactic(auto)]
 
-ghost use Rattle.std.specs.Prelude.{◌≢◌};
+ghost use Rattle.std.specs.Prelude.{◌≡◌, IfSome};
 
 use std::env::FillError;
 use std::rt::Env;
@@ -19,13 +19,13 @@ pub fn has_argument<R: Env + Eprint>(rt: &R, name: &str, input: &str) -> bool {
     true
 }
 
-// Runs the program, unless it was given an argument; the exit status.
-pub fn start<R: Env + Eprint, F: FnOnce() -> u8>(rt: &R, name: &str, input: &str, run: F) -> u8
-    requires { F.IsAlwaysCallable run }
-    ensures { result ≢ 2 → F.post run result }
+// The exit status of a program that was given an argument, which is said; none where it was given none.
+pub fn wrong_argument<R: Env + Eprint>(rt: &R, name: &str, input: &str) -> Option<u8>
+    ensures { IfSome result (λ status. status ≡ 2) }
 {
     if has_argument(rt, name, input) {
-        return WRONG_ARGUMENT;
+        Some(WRONG_ARGUMENT)
+    } else {
+        None
     }
-    run()
 }

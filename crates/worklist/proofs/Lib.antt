@@ -1,5 +1,6 @@
 pub mod Reading
 pub mod NextLine
+pub mod Pieces
 pub mod Refusing
 pub mod Gathering
 pub mod Collecting

@@ -1,7 +1,7 @@
 // A list of racks, a line `first,last` each, best first: its windows, or the first line that is refused.
 #![tactic(auto)]
 
-ghost use Rattle.std.specs.Prelude.{◌≡◌, ◌+◌, ◌≤◌, min};
+ghost use Rattle.std.specs.Prelude.{◌≡◌, ◌≤◌};
 ghost use Rattle.matching.specs.Windows.{most_jobs, no_window, is_window as is_window_of, windows_of};
 ghost use Rattle.worklist.specs.Lines.{window_result, window_read};
 ghost use Rattle.worklist.specs.Refusals.{or_else};
@@ -88,24 +88,15 @@ fn add_window(d: &mut Jobs, w: Window)
     }
 }
 
-// Where the next line begins behind one that ends at `to`: behind its line end, or at the end of the bytes.
-fn behind(to: usize, len: usize) -> usize
-    ensures { result ≡ min (to + 1) len }
-{
-    if to < len { to + 1 } else { len }
-}
-
 // Reads the lines of a list up to the first that is refused, or to the first that is one too many.
 pub fn collect(input: &[u8]) -> Collected
     ensures { CollectedFrom input.now result }
 {
     let windows = [blank(); Jobs::MOST];
     let mut jobs = Jobs { count: 0, windows };
-    let mut at: usize = 0;
-    // Not a `for`, which is no plainer: `split_inclusive` leaves each line its line end, and `split` has one more line behind the last line end.
-    while at < input.len() && jobs.count <= Jobs::MOST {
-        let to = lists::next_byte(input, at, b'\n');
-        match read_window(&input[at..to]) {
+    for piece in input.split_inclusive(|b| *b == b'\n').take(Jobs::MOST + 1) {
+        let line = piece.strip_suffix(b"\n").unwrap_or(piece);
+        match read_window(line) {
             Ok(window) => add_window(&mut jobs, window),
             Err(row) => {
                 let line = jobs.count as u64 + 1;
@@ -114,7 +105,6 @@ pub fn collect(input: &[u8]) -> Collected
                 return Collected { refused, jobs };
             }
         }
-        at = behind(to, input.len());
     }
     Collected {
         refused: None,

@@ -1,10 +1,7 @@
-use Prim.Native.Nat.{◌-◌}
-use lib.ListN.{length}
+use mathlib.Core.List.{map}
 use Rattle.worklist.proofs.Collecting.{Along}
+use Rattle.worklist.proofs.Pieces.{as_line}
 use Rattle.worklist.proofs.collect.Given as goal
 
-abbrev pub invariant-loop-at : goal.invariant-loop-at
-invariant-loop-at l = Along l.input l.at l.jobs
-
-abbrev pub decreases-loop-at : goal.decreases-loop-at
-decreases-loop-at l = length l.input - l.at
+abbrev pub invariant-loop-piece : goal.invariant-loop-piece
+invariant-loop-piece l = Along (map (λ x. as_line x.now) l.yielded) l.jobs
