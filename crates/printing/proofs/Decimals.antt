@@ -1,20 +1,18 @@
 -- A number's digits two and four at a time, and how many there are.
 use mathlib.Core.List.{[], ◌∷◌, ◌++◌, append_assoc}
 use mathlib.Core.Path.{◌≡◌, ap, ◌∙◌}
-use Prim.Native.Nat.{ℕ, zero, suc, ◌+◌, ◌*◌, ◌/◌, ◌%◌, ◌^◌, ◌≤◌, ◌<◌}
-use native.Mathlib.Nat.{pow-succ', one-le-pow}
+use Prim.Native.Nat.{ℕ, ◌+◌, ◌-◌, ◌/◌, ◌%◌, ◌^◌, ◌≤◌, ◌<◌}
 use native.Mathlib.Omega.{arith}
 use lib.ListN.{length, length-append}
 use Rattle.lines.specs.Bytes.{Bytes}
 use Rattle.lines.specs.Printing.{decimal}
-use Rattle.lines.proofs.Decimals.{decimal_one, decimal_more, length_one, length_more}
+use Rattle.lines.proofs.Decimals.{at_most, decimal_one, decimal_more}
+use Rattle.printing.specs.Lines.{line_digits}
 
--- as many as the powers of ten tell
-pub digits_by_power : (k n : ℕ) → 10 ^ k ≤ n → n < 10 * 10 ^ k → length (decimal n) ≡ k + 1
-digits_by_power zero n h j = length_one n (omega arith)
-digits_by_power (suc k) n h j =
-    let fewer = digits_by_power k (n / 10) (omega (arith, pow-succ' 10 k)) (omega (arith, pow-succ' 10 k)) in
-    omega (arith, length_more n (omega (arith, pow-succ' 10 k, h, one-le-pow k 10 (omega arith))))
+-- no more than a line has room for
+pub few_digits : (n : ℕ) → n < 2 ^ 64 → length (decimal n) ≤ line_digits
+unfolding line_digits
+few_digits n h = at_most (line_digits - 1) n (omega arith)
 
 -- the digits of a number below a hundred, if they are two
 abbrev pub pair : ℕ → Bytes
@@ -33,3 +31,8 @@ decimal_two_more n h =
 
 pub length_two_more : (n : ℕ) → 100 ≤ n → length (decimal n) ≡ length (decimal (n / 100)) + 2
 length_two_more n h = ap length (decimal_two_more n h) ∙ length-append (decimal (n / 100)) (pair (n % 100))
+
+pub length_four_more : (n : ℕ) → 10000 ≤ n → length (decimal n) ≡ length (decimal (n / 10000)) + 4
+length_four_more n h =
+    let e : n / 100 / 100 ≡ n / 10000 = omega arith in
+    omega (arith, length_two_more n (omega arith), rw e at (length_two_more (n / 100) (omega arith)))

@@ -21,7 +21,7 @@ pub fn promise_packed(b: &Packed) -> Result<Option<Laxity>, Refusal>
     Ok(search::promise(b))
 }
 
-// The answer of a refused call.
+// The answer of a refused call, in the numbers of the C interface: that of the refusal, and 0 for no laxity.
 fn refused(refusal: Refusal) -> Promised
     ensures { result ≡ promised_refused (number_of refusal) }
 {

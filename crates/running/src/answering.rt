@@ -2,7 +2,7 @@
 ghost use Rattle.std.specs.Prelude.{◌+◌, ◌≤◌, ◌<◌, ◌^◌, length};
 ghost use Rattle.answers.specs.Printed.{answer_room};
 ghost use Rattle.session.specs.Inner.Days.{GoodDay};
-ghost use Rattle.running.specs.Inner.Days.{Answered};
+ghost use Rattle.running.specs.Inner.Days.{after_line, Answered};
 
 use answers::GivenUp;
 use board::Board;
@@ -10,6 +10,7 @@ use printers::Printer;
 use session::Day;
 
 // Lists for the jobs that a closing gives up, with an entry for every place of a board.
+#[derive(Drop)]
 pub struct Lists {
     tickets: [u32; Board::PLACES],
     grades: [u8; Board::PLACES],
@@ -39,8 +40,7 @@ pub(crate) fn answer_line(
     requires good_day { GoodDay day.old }
     requires has_room { at + answer_room ≤ length out.old }
     requires few_lines { printer.old.number < 2 ^ 63 }
-    ensures { let after = record { day = day.new; printer = printer.new; at = result } in
-        Answered day.old printer.old line.now out.old at after out.new }
+    ensures { Answered day.old printer.old line.now out.old at (after_line day.new printer.new result) out.new }
 {
     let stepped = session::step_line(
         day,

@@ -1,19 +1,22 @@
 // Bytes taken in: lines of any length, of which so many bytes are kept that one too long is known.
-ghost use Rattle.std.specs.Prelude.{◌+◌, ◌≤◌, ◌<◌, ◌^◌, length};
+ghost use Rattle.std.specs.Prelude.{◌≡◌, ◌+◌, ◌≤◌, ◌<◌, ◌^◌, not, eqb, length};
 ghost use Rattle.lines.specs.Output.{at_end};
 ghost use Rattle.lines.specs.Printers.{answers_printed};
-ghost use Rattle.lines.specs.Machine.{last_answers, last_session, last_printer, printed_at_end};
+ghost use Rattle.lines.specs.Machine.{partial_room, last_answers, last_session, last_printer, printed_at_end};
 ghost use Rattle.buffer.specs.Puts.{PutWithin};
+ghost use Rattle.cutting.specs.Cut.{partial_bytes};
 ghost use Rattle.tallies.specs.Room.{tally_room};
 ghost use Rattle.answers.specs.Printed.{answer_room};
 ghost use Rattle.session.specs.Inner.Days.{session_of, GoodDay};
-ghost use Rattle.running.specs.Inner.Days.{Given};
+ghost use Rattle.running.specs.Inner.Days.{after_line, Given};
 ghost use Rattle.running.specs.Inner.Machines.{NewState, machine_of, after, TakenIn, GoesOn, PutAt};
 
 use crate::answering;
 use crate::answering::Lists;
 use crate::state::State;
 use board::Board;
+use cutting::Partial;
+use page::Page;
 use printers::{Printer, Program};
 use session::Day;
 
@@ -35,7 +38,7 @@ pub(crate) fn new_state(program: Program) -> State
     let printer = Printer {
         program,
         number: 1,
-        page: page::new_page(),
+        page: Page::new(),
     };
     State {
         day,
@@ -126,20 +129,27 @@ pub(crate) fn feed(
     Fed { used, at: end }
 }
 
+// Whether a byte of a line is there.
+fn has_begun(partial: Partial) -> bool
+    requires { partial.len ≤ partial_room }
+    ensures { result ≡ not (eqb (length (partial_bytes partial)) 0) }
+{
+    partial.len != 0
+}
+
 // Answers a line that has begun; where its print ends.
 fn last_line(state: &mut State, out: &mut [u8], at: usize) -> usize
     requires has_room { at + answer_room ≤ length out.old }
     requires few_lines { state.old.printer.number < 2 ^ 63 }
     ensures { let m = machine_of state.old in
-        let end = record { day = state.new.day; printer = state.new.printer; at = result } in
-        Given (answers_printed m.printer (last_answers m)) (last_session m) (last_printer m) out.old at end out.new }
+        let after = after_line state.new.day state.new.printer result in
+        Given (answers_printed m.printer (last_answers m)) (last_session m) (last_printer m) out.old at after out.new }
 {
-    let len = state.partial.len;
-    if len == 0 {
+    if !has_begun(state.partial) {
         return at;
     }
     let mut lists = Lists::new();
-    let line = &state.partial.bytes[..len];
+    let line = &state.partial.bytes[..state.partial.len];
     answering::answer_line(&mut state.day, &mut state.printer, line, &mut lists, out, at)
 }
 

@@ -14,6 +14,7 @@ use std::rt::Clock;
 const BUFFER: usize = 65_536;
 
 // A run so far: the state behind the bytes read, how many they are, and how many bytes of what is printed the system took.
+#[derive(Drop)]
 struct Progress {
     state: State,
     read: u64,

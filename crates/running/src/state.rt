@@ -8,6 +8,7 @@ use printers::Printer;
 use session::Day;
 
 // The day, what the printer knows, and the bytes so far of the line that is being read.
+#[derive(Drop)]
 pub struct State {
     pub day: Day,
     pub printer: Printer,

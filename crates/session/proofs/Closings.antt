@@ -64,7 +64,7 @@ module _ (p : Packed) (y : Tally) (c : Closed) (e : c ≡ closed (board_of p) pl
       → z ≡ fed (fed y (baked_events c.ticket c.grade)) (map (event given_up_kind) (take c.listed G))
       → Did (open_day p y) (step_close b)
       (record { day = open_day q z; answer = SlotClosed (record { slot = b.slot; ticket = c.ticket; grade = c.grade; shortfall = c.shortfall }); listed = c.listed }) T G
-  unfolding session_of session_after GoodDay answer_of
+  unfolding session_of session_after answer_of
   close_did T G q z s h n k x =
       did_as (close_step h)
       (record {

@@ -73,5 +73,4 @@ module _ (day : Day) (l : Bytes) (o : Bool) (h : o ≡ is_some day.board) where
 
 -- an open board of a good day
 pub good_open : (day : Day) (p : Packed) → GoodDay day → day.board ≡ Some p → sound (board_of p) ≡ true
-unfolding GoodDay
 good_open day p g is = sym (ap sound_held is) ∙ g

@@ -46,7 +46,7 @@ refusal_did day after n g e T G = record { good = g; session = e; few = omega ar
 -- so while a board is open, which the call leaves as it was
 pub kept_did : (p q : Packed) (t : Tally) (n : ℕ) (a : Step) → sound (board_of p) ≡ true → board_of q ≡ board_of p → a ≡ step_refused (some (board_of p)) n
     → DidAlone (open_day p t) a (record { day = open_day q t; answer = Refused n; listed = 0 })
-unfolding session_of GoodDay
+unfolding session_of
 kept_did p q t n a s e f T G =
     did_as f (refusal_did (open_day p t) (open_day q t) n (rw e s) (ap (λ b. open_session b t) e) T G)
 
@@ -64,7 +64,7 @@ module _ (day : Day) (d : ℕ) (o : Opened) (e : o ≡ opened d) where
 
   pub open_did : (p : Packed) → o.refusal ≡ 0 → board_of p ≡ o.board
       → DidAlone day (step_open (session_of day).board d) (record { day = open_day p day.tally; answer = BoardOpened d; listed = 0 })
-  unfolding answer_of session_of session_after fed GoodDay
+  unfolding answer_of session_of session_after fed
   open_did p h q T G =
       did_as (open_step h)
       (record { good = rw q (opened_is_sound h); session = ap (λ b. open_session b day.tally) q; few = omega arith; answer = refl })
@@ -88,7 +88,7 @@ module _ (p : Packed) (y : Tally) (s : sound (board_of p) ≡ true) (t w g : ℕ
 
   pub admit_did : (q : Packed) (z : Tally) → a.refusal ≡ 0 → a.board ≡ board_of q → z ≡ fed y (event admitted_kind g ∷ [])
       → DidAlone (open_day p y) (step_admit b t w g) (record { day = open_day q z; answer = JobAdmitted t a.last; listed = 0 })
-  unfolding answer_of session_of session_after GoodDay
+  unfolding answer_of session_of session_after
   admit_did q z h k c T G =
       did_as (admit_step h)
       (record {
@@ -112,7 +112,7 @@ module _ (p : Packed) (y : Tally) (s : sound (board_of p) ≡ true) (r : Promise
 
   pub promise_did : r.refusal ≡ 0
       → DidAlone (open_day p y) (step_promise pb) (record { day = open_day p y; answer = WaitPromised r.laxity; listed = 0 })
-  unfolding answer_of session_of session_after fed GoodDay
+  unfolding answer_of session_of session_after fed
   promise_did h T G = did_as (promise_step h) (record { good = s; session = refl; few = omega arith; answer = refl })
 
 module _ (p : Packed) (y : Tally) (s : sound (board_of p) ≡ true) (t : ℕ) (w : Withdrawn) (e : w ≡ withdrawn (board_of p) t) where
@@ -137,7 +137,7 @@ module _ (p : Packed) (y : Tally) (s : sound (board_of p) ≡ true) (t : ℕ) (w
 
   pub withdraw_did : (q : Packed) (z : Tally) → w.refusal ≡ 0 → board_of q ≡ w.board → z ≡ fed y (event withdrawn_kind w.grade ∷ [])
       → DidAlone (open_day p y) (step_withdraw wb t) (record { day = open_day q z; answer = JobWithdrawn t; listed = 0 })
-  unfolding answer_of session_of session_after GoodDay
+  unfolding answer_of session_of session_after
   withdraw_did q z h k c T G =
       did_as (withdraw_step h)
       (record {

@@ -16,6 +16,9 @@ pub record DayAfter : Type 0 where
   pub printer : PrinterHeld
   pub at : ℕ
 
+abbrev pub after_line : Day → PrinterHeld → ℕ → DayAfter
+after_line d k end = record { day = d; printer = k; at = end }
+
 -- these bytes printed at `at` in the buffer, no more than an answer has; the day after them has this session, and the printer knows this
 pub record Given (bs : Bytes) (s : Session) (p : Printer) (out : Bytes) (at : ℕ) (r : DayAfter) (out' : Bytes) : Type 0 where
   pub good : GoodDay r.day

@@ -29,7 +29,7 @@ sound_held None = true
 sound_held (Some p) = sound (board_of p)
 
 -- an open board is sound
-unfoldable pub GoodDay : Day → Type 0
+abbrev pub GoodDay : Day → Type 0
 GoodDay d = sound_held d.board ≡ true
 
 -- the day while a board is open

@@ -1,9 +1,5 @@
 -- `answer_line`: the step is done, and its answer is printed.
-use mathlib.Core.Path.{◌≡◌, sym}
-use Prim.Native.Nat.{◌≤◌}
 use native.Mathlib.Omega.{arith}
-use lib.ListN.{length}
-use lib.Seq.{length-take-le}
 use Rattle.board.specs.Limits.{places_held}
 use Rattle.lines.specs.Session.{step}
 use Rattle.session.specs.Inner.Days.{session_of, done, Did}
@@ -17,10 +13,14 @@ did : (c : After-step_line-stepped) → let l = c.step_line-stepped in
 unfolding places_held
 did c = c.step_line-stepped.ensures c.requires.good_day (omega arith, omega arith, omega arith)
 
-in_tickets : (c : After-step_line-stepped) → c.step_line-stepped.result.listed ≤ length c.step_line-stepped.new.expired
+pub shared_ref_as_front-given_up : goal.shared_ref_as_front-given_up
 unfolding places_held
-in_tickets c = omega (arith, (did c).few, c.step_line-stepped.auto.expired)
+shared_ref_as_front-given_up c = omega (arith, (did (goal.at.shared_ref_as_front-given_up c).After-step_line-stepped).few)
 
-in_grades : (c : After-step_line-stepped) → c.step_line-stepped.result.listed ≤ length c.step_line-stepped.new.grades
+pub returns : goal.returns
 unfolding places_held
-in_grades c = omega (arith, (did c).few, c.step_line-stepped.auto.grades)
+returns c =
+    let o = (goal.at.returns c).After-step_line-stepped in
+    answered_by c.args.day.now c.args.printer.now c.args.line.now c.args.out.now c.args.at (done c.step_line-stepped.result c.step_line-stepped.new.day) _ _ (did o)
+    (omega (arith, c.step_line-stepped.auto.expired)) (omega (arith, c.step_line-stepped.auto.grades)) c.print_by.new.printer c.print_by.result _
+    c.requires.has_room c.requires.few_lines c.print_by.ensures

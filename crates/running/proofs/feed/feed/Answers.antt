@@ -14,3 +14,13 @@ loop-used-init c =
 
 pub loop-used-preserved : goal.loop-used-preserved
 loop-used-preserved c = taken_join c.loop-used.invariant c.feed_line-fed.ensures.taken_in
+
+pub feed_line-fed-requires-clause-has_room : goal.feed_line-fed-requires-clause-has_room
+unfolding answer_room
+feed_line-fed-requires-clause-has_room c = omega arith
+
+pub returns-else-end-out-clause-goes_on : goal.returns-else-end-out-clause-goes_on
+unfolding answer_room
+returns-else-end-out-clause-goes_on c =
+    let no_room : length c.loop-used.out < c.loop-used.end + answer_room = leb-false _ _ c.if-end-out.false-raw in
+    stops_full c.loop-used.invariant (omega (arith, no_room, kept_length c.loop-used.invariant))

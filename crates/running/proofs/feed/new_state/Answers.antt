@@ -31,6 +31,6 @@ returns c =
       machine = rw c.no_bytes.ensures
           (ap₂ (λ (t : Tally) (p : Printer). reading (record { board = none; tally = t }) p [])
           c.zero.ensures
-          (ap (printer_by program 1) c.new_page.ensures ∙ new_known program));
+          (ap (printer_by program 1) c.new.ensures ∙ new_known program));
       number = refl;
     }
