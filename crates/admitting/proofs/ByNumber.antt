@@ -10,6 +10,7 @@ use Rattle.board.specs.declared.Board.{Board}
 use Rattle.board.specs.declared.Slot.{Slot}
 use Rattle.board.specs.declared.refusal.Refusal.{Refusal}
 use Rattle.board.specs.Limits.{places_held, deepest}
+use Rattle.board.proofs.Refusals.{some_number}
 use Rattle.board.specs.Rows.{◌if◌, first_given, admit_rows}
 use Rattle.board.specs.Held.{slot_of, slot_number}
 use Rattle.board.specs.Admit.{last_of, with_job, admitted_if}
@@ -28,10 +29,6 @@ pub first_stands : (n m : ℕ) → (n ≡ 0 → ⊥) → (n or_else m) ≡ n
 unfolding ◌or_else◌
 first_stands zero m h = absurd (h refl)
 first_stands (suc n) m h = refl
-
--- no refusal has the number 0
-pub some_number : (r : Refusal) → number_of r ≡ 0 → ⊥
-some_number r e = grind arith
 
 answer_refused : (b : Board) (t w g n : ℕ) → (n ≡ 0 → ⊥) → record { refusal = n; last = slot_number 0; board = b } ≡ admitted_if n b t w g
 unfolding admitted_if

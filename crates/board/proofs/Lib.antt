@@ -5,3 +5,4 @@ pub mod Grades
 pub mod Soundness
 pub mod Calls
 pub mod Tallies
+pub mod Refusals

@@ -1,3 +1,2 @@
 pub mod OnPage
 pub mod Handed
-pub mod Refused

@@ -19,7 +19,7 @@ use Rattle.answers.specs.declared.Answer.TheVariants.{Refused}
 use Rattle.packing.specs.declared.Packed.{Packed}
 use Rattle.packing.specs.Inner.Packed.{board_of}
 use Rattle.admitting.specs.Inner.Answer.{admitted_answer}
-use Rattle.admitting.proofs.ByNumber.{some_number}
+use Rattle.board.proofs.Refusals.{some_number}
 use Rattle.closing.specs.Inner.Answered.{closed_answer}
 use Rattle.promising.specs.Inner.Seen.{promised_as}
 use Rattle.withdrawing.specs.Inner.AnyBoard.{withdrawn_of}

@@ -7,7 +7,8 @@ use Rattle.board.specs.Limits.{longest_laxity, places_held, last_slot, deepest}
 use Rattle.board.specs.Refusals.{number_of}
 use Rattle.packing.specs.declared.Head.{Head}
 use Rattle.limits.proofs.Limits.{within}
-use Rattle.admitting.proofs.ByNumber.{some_number, number_out, number_row, number_full, refused_by, placed_by, limits_read, row_read, passed}
+use Rattle.board.proofs.Refusals.{some_number}
+use Rattle.admitting.proofs.ByNumber.{number_out, number_row, number_full, refused_by, placed_by, limits_read, row_read, passed}
 use Rattle.admitting.proofs.admit_on.Goals as goal
 
 pub returns-then-not-in_limits : goal.returns-then-not-in_limits

@@ -5,7 +5,7 @@ use Rattle.buffer.proofs.Fitting.{fits_put}
 use Rattle.buffer.proofs.Pieces.{put_nil, put_fewer}
 use Rattle.answers.specs.Printed.{answer_room, answer_fits}
 use Rattle.answers.proofs.Room.{answer_fitting}
-use Rattle.page.proofs.Refused.{refused_number, taken_number}
+use Rattle.board.proofs.Refusals.{refused_number, taken_number}
 use Rattle.sheet.specs.Room.{page_length}
 use Rattle.printers.proofs.PageRoom.{page_fitting}
 use Rattle.printers.proofs.Closings.{no_closing, page_as_it_was, closing_fits}

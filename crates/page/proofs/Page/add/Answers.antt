@@ -7,7 +7,7 @@ use Rattle.board.specs.Refusals.{number_of}
 use Rattle.lines.specs.Sheet.{page_slots, sheet_number}
 use Rattle.page.specs.Pages.{figures_held, handed_over_if, handed_over}
 use Rattle.page.proofs.Handed.{answer_refused, page_refused, page_taken}
-use Rattle.page.proofs.Refused.{some_number}
+use Rattle.board.proofs.Refusals.{some_number}
 use Rattle.page.proofs.Page.add.Goals as goal
 
 pub returns-in_err-check-clause-answer : goal.returns-in_err-check-clause-answer
