@@ -28,7 +28,8 @@ fn in_slot<B: HoldsBoard>(b: &B) -> usize
     head.count
 }
 
-// Admits a job on a board, in whatever form it is held, of which only the limits are looked at: the job's last slot.
+// Admits a job on a board, in whatever form it is held, of which only the limits are looked at: the job's last slot. Ticket, laxity and grade come one by one, as
+// the C interface has them (`oven_admit`).
 pub fn admit_on<B: HoldsBoard>(
     b: &mut B,
     ticket: u32,

@@ -103,7 +103,8 @@ fn print_fitting(number: u64, answer: Answer, given_up: GivenUp, out: &mut [u8],
     }
 }
 
-// Prints the answer to the line of this number at `at`; where it ends. Where it may not be printed nothing is, and that is `at`.
+// Prints the answer to the line of this number at `at`; where it ends. Where it may not be printed nothing is, and that is `at`. Number, answer and jobs in one
+// struct would be no plainer: each of the three is made by another call.
 pub fn print_answer(
     number: u64,
     answer: Answer,

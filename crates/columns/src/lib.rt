@@ -19,7 +19,7 @@ fn column_byte(begun: bool, rest: u64) -> u8
 }
 
 // Puts the digits of n to the right into so many columns, the last digit first; where the columns end. Where there is no room for them nothing is put,
-// and that is `at`.
+// and that is `at`. What may not change: the clause says each byte, of which the library's `Display` with a width ensures none.
 pub fn put_right(out: &mut [u8], at: usize, width: usize, n: u64) -> usize
     ensures { let fits = leb (at + width) (length out.old) in
         PutIf fits width (to_right width (decimal n)) out.old at result out.new }

@@ -40,7 +40,7 @@ impl Partial {
     }
 }
 
-// A line cut from a chunk: its bytes so far, how far the chunk is used, and whether the line has ended.
+// A line cut from a chunk: its bytes so far, how far the chunk is used, and whether the line has ended. No `Option`: both are there in either case.
 #[derive(Clone, Copy)]
 pub struct Cut {
     pub partial: Partial,

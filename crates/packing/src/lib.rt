@@ -16,7 +16,8 @@ pub struct Head {
     pub count: usize,
 }
 
-// A board in arrays: the keys, tickets and admitted slots of its jobs are the first `count` of each.
+// A board in arrays: the keys, tickets and admitted slots of its jobs are the first `count` of each. Structs in one list are the older form, `Board`, and slower:
+// the search reads the keys alone (docs/DECISIONS.md, 110).
 #[derive(Clone, Copy)]
 pub struct Packed {
     pub head: Head,
@@ -30,7 +31,7 @@ pub const LAST_SLOTS: u32 = 1 << 29;
 
 const GRADES: u32 = Tally::GRADES as u32;
 
-// The key of a last slot and a grade, as far as it can hold them.
+// The key of a last slot and a grade, as far as it can hold them. No `From`, which would be no plainer: it takes a pair, and a key is no type of its own.
 pub fn key(last: Slot, grade: u8) -> u32
     ensures { result ≡ key_of last.0 grade }
 {

@@ -31,7 +31,7 @@ pub extern "C" fn oven_page_full(p: Page) -> bool
     p.is_full()
 }
 
-// Prints the page at the start of the buffer; how many bytes it has, or 0 where there is no room for it.
+// Prints the page at the start of the buffer; how many bytes it has, or 0 where there is no room for it, as the C interface has it.
 #[unsafe(no_mangle)]
 pub extern "C" fn oven_page_print(p: Page, out: &mut [u8]) -> usize
     ensures { let fits = page_fits 0 (length out.old) in

@@ -36,8 +36,8 @@ pub fn print_at(out: &mut [u8], at: usize, letter: u8, numbers: &[u64]) -> usize
     end + 1
 }
 
-// Puts the digits of n at `at`, the last ones first and two at a time; where they end.
-// What may not change: nothing new is trusted, and with the kit's crate `itoa` the proofs would stand on its statements too.
+// Puts the digits of n at `at`, the last ones first and two at a time; where they end. What may not change: the clause of `print_at` says each byte, of which the
+// library's `Display` ensures none; and `last_digit_repeated` and `leading_zero` (must-fail) are edits of these digits, which the crate `itoa` would write.
 #[tactic(auto, using(crate::proofs::Decimals::length_two_more), unfolding(crate::specs::Lines::line_digits))]
 fn put_number(out: &mut [u8], at: usize, n: u64) -> usize
     requires { at + line_digits ≤ length out.old }

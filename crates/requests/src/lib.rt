@@ -29,7 +29,8 @@ pub enum Asked {
     Withdraw(u32),
 }
 
-// What the fields of a line ask for, or row 14; and whether the line has these fields, and no other.
+// What the fields of a line ask for, or row 14; and whether the line has these fields, and no other. Not one `Result`, which is no plainer: row 13 comes
+// before row 14, and is known only behind the last field.
 #[derive(Clone, Copy)]
 pub struct Read {
     pub asked: Result<Asked, Refusal>,

@@ -9,7 +9,7 @@ use board::Board;
 use printers::Printer;
 use session::Day;
 
-// Lists for the jobs that a closing gives up, with an entry for every place of a board.
+// Lists for the jobs that a closing gives up, with an entry for every place of a board: three arrays, since it writes three slices, as the C interface lends them.
 #[derive(Drop)]
 pub struct Lists {
     tickets: [u32; Board::PLACES],

@@ -104,14 +104,9 @@ fn feed_line(
     feed_part(state, chunk, from, lists, out, at)
 }
 
-// Takes in the chunk's bytes from `from` on, while the buffer has room for what a line may print.
-pub(crate) fn feed(
-    state: &mut State,
-    chunk: &[u8],
-    from: usize,
-    out: &mut [u8],
-    at: usize,
-) -> Fed
+// Takes in the chunk's bytes from `from` on, while the buffer has room for what a line may print. State, chunk and buffer stay apart: a struct of references to them
+// would be no plainer, since each call lends them anew.
+pub(crate) fn feed(state: &mut State, chunk: &[u8], from: usize, out: &mut [u8], at: usize) -> Fed
     requires in_chunk { from ≤ length chunk.now }
     requires in_buffer { at ≤ length out.old }
     requires few_lines { state.old.printer.number + length chunk.now < from + 2 ^ 63 }
@@ -150,7 +145,14 @@ fn last_line(state: &mut State, out: &mut [u8], at: usize) -> usize
     }
     let mut lists = Lists::new();
     let line = &state.partial.bytes[..state.partial.len];
-    answering::answer_line(&mut state.day, &mut state.printer, line, &mut lists, out, at)
+    answering::answer_line(
+        &mut state.day,
+        &mut state.printer,
+        line,
+        &mut lists,
+        out,
+        at,
+    )
 }
 
 // Prints the tally of an open board; where it ends.

@@ -7,7 +7,7 @@ use crate::prefix::Prefix;
 use board::Tally;
 use counts::CELLS;
 
-// The jobs of laxity k + 1 whose grade starts so: 2 ^ left grades do.
+// The jobs of laxity k + 1 whose grade starts so: 2 ^ left grades do. A type for k would be no plainer: it is the counter of each loop that calls this.
 pub(crate) fn column_of(counts: &[u16; CELLS], prefix: Prefix, k: usize) -> u32
     requires { k < longest_laxity }
     ensures { (result ≡ column counts.now prefix.bits prefix.left k) × (result ≤ 2 ^ (16 + deepest)) }

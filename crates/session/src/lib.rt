@@ -56,7 +56,7 @@ fn admit_line(
     Ok(Answer::Admitted(ticket, last))
 }
 
-// A line that closes. The jobs given up are the first in the lists.
+// A line that closes. The jobs given up are the first in the lists, which are three slices, as `close_packed` and the C interface take them.
 fn close_line(
     board: &mut Packed,
     tally: &mut Tally,

@@ -35,7 +35,7 @@ pub fn take_in(tally: &mut Tally, kind: Kind, grade: u32) -> Result<(), Refusal>
     Ok(())
 }
 
-// The same by the number of the kind: 0 admitted, 1 baked, 2 given up, 3 withdrawn.
+// The same by the number of the kind: 0 admitted, 1 baked, 2 given up, 3 withdrawn. A number, as the C interface hands it over (`oven_count`).
 pub fn count_into(tally: &mut Tally, kind: u32, grade: u32) -> Result<(), Refusal>
     ensures { record { refusal = refusal_number result; tally = tally.new } ≡ counted tally.old kind grade }
 {

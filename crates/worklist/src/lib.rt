@@ -123,7 +123,8 @@ pub fn windows_first(d: Jobs) -> usize
     first.unwrap_or(n)
 }
 
-// The line that is refused, with its number: the one found in reading, or else the one that the call's number names, where it has one.
+// The line that is refused, with its number: the one found in reading, or else the one that the call's number names, where it has one. That is a number and no
+// `Refusal`, since it is the one in C's `BestDay`.
 pub fn refusal(c: Collected, number: u8) -> Option<Refused>
     ensures { as_refusal result ≡ or_else (as_refusal c.refused) (refused_by_call number c.jobs) }
 {

@@ -3,7 +3,6 @@ use mathlib.Core.Path.{◌≡◌, sym, ap, ◌∙◌}
 use Prim.Native.Nat.{◌+◌}
 use native.Mathlib.Omega.{arith}
 use borrow.Author.Tests.{eq-eqb, eqb-true, not-true, not-false}
-
 use Rattle.lists.proofs.Tests.{never}
 use lib.ListN.{length}
 use Rattle.lines.specs.Bytes.{Bytes}
