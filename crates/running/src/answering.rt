@@ -9,7 +9,8 @@ use board::Board;
 use printers::Printer;
 use session::Day;
 
-// Lists for the jobs that a closing gives up, with an entry for every place of a board: three arrays, since it writes three slices, as the C interface lends them.
+// Lists for the jobs that a closing gives up, with an entry for every place of a board: three arrays, since it writes three slices, as the C interface lends
+// them. (`Parts` of entries holds the same three, and reads them: a type for both would stand below a crate of the library.)
 #[derive(Drop)]
 pub struct Lists {
     tickets: [u32; Board::PLACES],

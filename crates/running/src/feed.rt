@@ -47,7 +47,8 @@ pub(crate) fn new_state(program: Program) -> State
     }
 }
 
-// Takes in the chunk's bytes from `from` on, up to the end of the line that they begin with or go on with, or to the chunk's end. The line's bytes are kept.
+// Takes in the chunk's bytes from `from` on, up to the end of the line that they begin with or go on with, or to the chunk's end. The line's bytes are kept. What
+// is asked for here is of two arguments each, a chunk or a buffer and a place in it, and so no type's invariant.
 fn feed_part(
     state: &mut State,
     chunk: &[u8],

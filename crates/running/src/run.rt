@@ -100,7 +100,7 @@ impl Progress {
     }
 }
 
-// The name under which a program says what stopped it.
+// The name under which a program says what stopped it. A `Display` would be no plainer: it has the same two arms.
 fn name_of(program: Program) -> &'static str {
     match program {
         Program::Board => "oven",

@@ -23,7 +23,7 @@ use Rattle.answers.specs.declared.Answer.TheVariants.{Closed as SlotClosed}
 use Rattle.answers.specs.Printed.{answer_of}
 use Rattle.packing.specs.declared.Packed.{Packed}
 use Rattle.packing.specs.Inner.Packed.{board_of}
-use Rattle.session.specs.Inner.Days.{session_of, GoodDay, open_day, Did}
+use Rattle.session.specs.Inner.Days.{session_of, open_day, Did}
 use Rattle.session.proofs.Steps.{open_session, did_as}
 use Rattle.session.proofs.Entries.{Entered, jobs_named}
 

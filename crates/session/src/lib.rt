@@ -1,4 +1,5 @@
-// What a line does to the day.
+// What a line does to the day. That the open board is sound is a hypothesis of each promise and no type's invariant: `step_line` is safe on every day
+// (docs/ARCHITECTURE.md). Board and tally are lent apart, as a day parts them once its board is open.
 #![tactic(auto)]
 
 ghost use Rattle.std.specs.Prelude.{◌≡◌, true};
