@@ -30,9 +30,9 @@ struct Parts {
 impl Parts {
     // One entry, put together from its parts.
     #[tactic(auto, unfolding(board::specs::Limits::places_held, crate::specs::Inner::Parts::entry_at))]
-    fn entry(&self, i: usize) -> Entry
+    fn entry(self, i: usize) -> Entry
         requires { i < places_held }
-        ensures { result ≡ entry_at self.now i }
+        ensures { result ≡ entry_at self i }
     {
         Entry {
             ticket: self.tickets[i],
@@ -80,8 +80,10 @@ pub extern "C" fn oven_close_into(b: Board, list: &mut [Entry]) -> Closed
     ensures list { list.new ≡ written_over entry_of (listing b (length list.old)) list.old }
 {
     let closed = closing(b, list.len());
-    for i in 0..closed.count {
-        list[i] = closed.parts.entry(i);
+    let count = closed.count;
+    let parts = closed.parts;
+    for i in 0..count {
+        list[i] = parts.entry(i);
     }
     closed.answer
 }

@@ -21,9 +21,9 @@ fn job_with(b: &Board, ticket: u32) -> Option<Place>
         .find(|p| p.ticket == ticket)
 }
 
-// The board without the job that has this ticket. By value: behind a `&mut` the proof does not get the length of the places.
-fn without(b: Board, ticket: u32) -> Board
-    ensures { result ≡ without_ticket b ticket }
+// The board without the job that has this ticket.
+fn without(b: &Board, ticket: u32) -> Board
+    ensures { result ≡ without_ticket b.now ticket }
 {
     let held = b.count.min(Board::PLACES);
     let mut places = [Place::blank(); Board::PLACES];
@@ -34,7 +34,11 @@ fn without(b: Board, ticket: u32) -> Board
             count += 1;
         }
     }
-    Board { count, places, ..b }
+    Board {
+        count,
+        places,
+        ..*b
+    }
 }
 
 // Rows 3 and 17 of any board, and then the board without the job, whose grade is the answer. On a sound board that is 02's
@@ -49,7 +53,7 @@ pub fn withdraw_by_rows(b: &mut Board, ticket: u32) -> Result<u8, Refusal>
     if job.admitted == b.slot {
         return Err(Refusal::NotToWithdraw);
     }
-    *b = without(*b, ticket);
+    *b = without(b, ticket);
     Ok(job.grade)
 }
 
