@@ -1,11 +1,11 @@
 // Withdrawing a job: 02's rows 2, 3 and 17 in order, then the board without it.
 #![tactic(auto)]
 
-ghost use Rattle.std.specs.Prelude.{◌≡◌, ◌==◌};
+ghost use Rattle.std.specs.Prelude.{◌≡◌, ◌==◌, Err};
 ghost use Rattle.std.specs.List.{find};
 ghost use Rattle.board.specs.Held.{used};
 ghost use Rattle.board.specs.Withdraw.{without_ticket, withdrawn};
-ghost use Rattle.withdrawing.specs.Inner.AnyBoard.{withdrawn_of, withdrawn_by_rows};
+ghost use Rattle.withdrawing.specs.Inner.AnyBoard.{withdrawn_of, left_by, withdrawn_by_rows};
 
 use board::{Board, Place, Refusal, Withdrawn};
 
@@ -41,10 +41,9 @@ fn without(b: &Board, ticket: u32) -> Board
     }
 }
 
-// Rows 3 and 17 of any board, and then the board without the job, whose grade is the answer. On a sound board that is 02's
-// withdrawal. A board whose withdrawal is refused stays as it was.
-pub fn withdraw_by_rows(b: &mut Board, ticket: u32) -> Result<u8, Refusal>
-    ensures { withdrawn_of result b.new ≡ withdrawn_by_rows b.old ticket }
+// Rows 3 and 17 of any board: the grade of the job to take off.
+fn to_withdraw(b: &Board, ticket: u32) -> Result<u8, Refusal>
+    ensures { withdrawn_of result (left_by result b.now ticket) ≡ withdrawn_by_rows b.now ticket }
 {
     if b.slot.0 == Board::LAST_SLOT + 1 {
         return Err(Refusal::BookEnded);
@@ -53,35 +52,43 @@ pub fn withdraw_by_rows(b: &mut Board, ticket: u32) -> Result<u8, Refusal>
     if job.admitted == b.slot {
         return Err(Refusal::NotToWithdraw);
     }
-    *b = without(b, ticket);
     Ok(job.grade)
 }
 
-// The answer of a withdrawal, with the board that it leaves.
-fn answered(grade: Result<u8, Refusal>, board: Board) -> Withdrawn
-    ensures { result ≡ withdrawn_of grade board }
+// Rows 3 and 17 of any board, and then the board without the job, whose grade is the answer. On a sound board that is 02's
+// withdrawal. A board whose withdrawal is refused stays as it was.
+pub fn withdraw_by_rows(b: &mut Board, ticket: u32) -> Result<u8, Refusal>
+    ensures { withdrawn_of result b.new ≡ withdrawn_by_rows b.old ticket }
 {
-    match grade {
-        Ok(grade) => Withdrawn {
-            refusal: 0,
-            grade,
-            board,
-        },
-        Err(refusal) => Withdrawn {
-            refusal: refusal.number(),
-            grade: 0,
-            board,
-        },
+    let grade = to_withdraw(b, ticket)?;
+    *b = without(b, ticket);
+    Ok(grade)
+}
+
+// The answer of a refused withdrawal.
+fn refused(refusal: Refusal, board: Board) -> Withdrawn
+    ensures { result ≡ withdrawn_of (Err refusal) board }
+{
+    Withdrawn {
+        refusal: refusal.number(),
+        grade: 0,
+        board,
     }
 }
 
 // Withdraws a job: 02's rows 2, 3 and 17 in order, then the board without it.
-pub fn withdraw(mut b: Board, ticket: u32) -> Withdrawn
+pub fn withdraw(b: Board, ticket: u32) -> Withdrawn
     ensures { result ≡ withdrawn b ticket }
 {
     if !soundness::is_sound(b) {
-        return answered(Err(Refusal::NotSound), b);
+        return refused(Refusal::NotSound, b);
     }
-    let grade = withdraw_by_rows(&mut b, ticket);
-    answered(grade, b)
+    match to_withdraw(&b, ticket) {
+        Ok(grade) => Withdrawn {
+            refusal: 0,
+            grade,
+            board: without(&b, ticket),
+        },
+        Err(refusal) => refused(refusal, b),
+    }
 }
