@@ -187,7 +187,7 @@ typedef struct oven_planned {
 #define OVEN_STACK_BOARDS(boards) ((boards) * sizeof(oven_board) + 1024 + OVEN_STACK_LOADER)
 
 /* A new board of this depth, 0 to 3: slot 1, highest ticket 0, no racks. Refuses with 1; the board is then all zero. */
-#define OVEN_STACK_OPEN OVEN_STACK_BOARDS(2)
+#define OVEN_STACK_OPEN OVEN_STACK_BOARDS(1)
 oven_opened oven_open(uint32_t depth);
 
 /*
@@ -268,14 +268,14 @@ bool oven_page_full(oven_page page);
  * the bytes after them keep what they had. `out` points to `length` bytes; where these are fewer it writes nothing and answers 0.
  * A figure past the limits of number 16, which only a page written by the caller has, shows the last digits that fit.
  */
-#define OVEN_STACK_PAGE_PRINT (4096 + OVEN_STACK_LOADER)
+#define OVEN_STACK_PAGE_PRINT (2048 + OVEN_STACK_LOADER)
 size_t oven_page_print(oven_page page, uint8_t *out, size_t length);
 
 /*
  * The best day in hindsight, for racks whose windows are all known: bakes, for every m at once, as many of the first m racks as any
  * plan can. It stands apart from the boards. Refuses with 18 or 19; every slot is then 0.
  */
-#define OVEN_STACK_BEST_DAY (163840 + OVEN_STACK_LOADER)
+#define OVEN_STACK_BEST_DAY (8192 + OVEN_STACK_LOADER)
 oven_planned oven_best_day(oven_racks racks);
 
 #ifdef __cplusplus
