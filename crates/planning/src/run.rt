@@ -16,7 +16,7 @@ fn answer<R: Print + Clock>(rt: &R, input: &[u8]) -> Outcome
     let mut out = [0u8; BUFFER];
     let end = plan::print_list(input, &mut out);
     let (ended, written) = match streams::write_all(rt, &out[..end]) {
-        Ok(()) => (Ok(()), end),
+        Ok(taken) => (Ok(()), taken),
         Err(unwritten) => (Err(Stop::WriteFailed(unwritten.failure)), unwritten.taken),
     };
     Outcome {

@@ -13,7 +13,7 @@ ghost use Rattle.running.specs.Inner.Machines.{NewState, machine_of, after, Take
 
 use crate::answering;
 use crate::answering::Lists;
-use crate::state::State;
+pub use crate::state::State;
 use board::Board;
 use cutting::Partial;
 use page::Page;
@@ -93,14 +93,17 @@ fn feed_line(
     ensures taken_in { TakenIn state.old chunk.now from out.old at (after state.new result) out.new }
     ensures forward { from < length chunk.now → from < result.used }
 {
-    let to = lists::next_byte(chunk, from, b'\n');
-    if to < chunk.len() && state.partial.len == 0 {
-        let line = &chunk[from..to];
-        let end = answering::answer_line(&mut state.day, &mut state.printer, line, lists, out, at);
-        return Fed {
-            used: to + 1,
-            at: end,
-        };
+    if state.partial.len == 0 {
+        let to = lists::next_byte(chunk, from, b'\n');
+        if to < chunk.len() {
+            let line = &chunk[from..to];
+            let day = &mut state.day;
+            let end = answering::answer_line(day, &mut state.printer, line, lists, out, at);
+            return Fed {
+                used: to + 1,
+                at: end,
+            };
+        }
     }
     feed_part(state, chunk, from, lists, out, at)
 }

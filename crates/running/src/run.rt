@@ -41,8 +41,8 @@ impl Progress {
         ensures written { WrittenSo result self.old.written (length bytes.now) self.new.written }
     {
         match streams::write_all(rt, bytes) {
-            Ok(()) => {
-                self.written += bytes.len() as u64;
+            Ok(taken) => {
+                self.written += taken as u64;
                 Ok(())
             }
             Err(unwritten) => {

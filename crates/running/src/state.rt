@@ -8,7 +8,7 @@ use printers::Printer;
 use session::Day;
 
 // The day, what the printer knows, and the bytes so far of the line that is being read.
-#[derive(Drop)]
+#[derive(Clone, Copy)]
 pub struct State {
     pub day: Day,
     pub printer: Printer,

@@ -2,7 +2,7 @@
 // answered for.
 #![tactic(auto)]
 
-ghost use Rattle.std.specs.Prelude.{◌≤◌, ◌<◌, length, IfOk, IfErr};
+ghost use Rattle.std.specs.Prelude.{◌≡◌, ◌≤◌, ◌<◌, length, IfOk, IfErr};
 ghost use Rattle.streams.specs.Got.{Within};
 
 pub mod failure;
@@ -89,9 +89,10 @@ fn write_some<R: Print + Clock>(rt: &R, buf: &[u8]) -> Result<usize, Failure>
     }
 }
 
-// Writes until all bytes are taken, or a write fails.
-pub fn write_all<R: Print + Clock>(rt: &R, buf: &[u8]) -> Result<(), Unwritten>
-    ensures { IfErr result (λ e. e.taken < length buf.now) }
+// Writes until all bytes are taken, or a write fails; how many were taken.
+pub fn write_all<R: Print + Clock>(rt: &R, buf: &[u8]) -> Result<usize, Unwritten>
+    ensures all { IfOk result (λ n. n ≡ length buf.now) }
+    ensures fewer { IfErr result (λ e. e.taken < length buf.now) }
 {
     let mut taken = 0;
     while taken < buf.len() {
@@ -100,5 +101,5 @@ pub fn write_all<R: Print + Clock>(rt: &R, buf: &[u8]) -> Result<(), Unwritten>
             Err(failure) => return Err(Unwritten { taken, failure }),
         }
     }
-    Ok(())
+    Ok(taken)
 }

@@ -2,6 +2,7 @@
 use mathlib.Core.Path.{◌≡◌, refl, sym, ap, ◌∙◌}
 use Prim.Native.Nat.{◌≤◌}
 use native.Mathlib.Omega.{arith}
+use borrow.Author.Rules.{rules}
 use borrow.Author.Tests.{leb-true}
 use lib.ListN.{length-take}
 use Rattle.std.specs.Prelude.{Option as Perhaps, Some, None}
@@ -50,11 +51,12 @@ pub print_refused-requires : goal.print_refused-requires
 unfolding plan_room room
 print_refused-requires c = leb-true _ _ (sym c.room_for.ensures ∙ c.if-not-room_for.false)
 
+-- what was printed is looked for and not named, so that another print there lacks the fact
 pub returns-in-Some : goal.returns-in-Some
 unfolding plan_room room printed_list
 returns-in-Some c =
     let w = whole _ _ c.collect-collected.ensures _ c.find_best_day-day.ensures (Some c.in-Some.refused) c.in-Some.ensures in
-    put_fits _ (sym c.room_for.ensures ∙ c.if-not-room_for.false) (put_as w c.print_refused.ensures)
+    put_fits _ (sym c.room_for.ensures ∙ c.if-not-room_for.false) (put_as w (search rules))
 
 -- the jobs are no more than there are slots
 within : (c : In-None) → c.collect-collected.result.jobs.count ≤ most_jobs

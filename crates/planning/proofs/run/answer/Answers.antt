@@ -12,10 +12,10 @@ pub returns-in-Ok : goal.returns-in-Ok
 unfolding EndsSo plan_room room
 returns-in-Ok g c =
     let printed = room_put (omega (arith, c.print_list-end.auto.out)) c.print_list-end.ensures in
-    record { count = refl; ends = omega (arith, printed.end) }
+    record { count = refl; ends = omega (arith, printed.end, c.in-Ok.ensures.all, length-take c.print_list-end.result c.print_list-end.new.out) }
 
 pub returns-in-Err : goal.returns-in-Err
 unfolding EndsSo plan_room room
 returns-in-Err g c =
     let printed = room_put (omega (arith, c.print_list-end.auto.out)) c.print_list-end.ensures in
-    record { count = refl; ends = omega (arith, printed.end, c.in-Err.ensures, length-take c.print_list-end.result c.print_list-end.new.out) }
+    record { count = refl; ends = omega (arith, printed.end, c.in-Err.ensures.fewer, length-take c.print_list-end.result c.print_list-end.new.out) }
