@@ -1,11 +1,10 @@
 // What can still be promised: 02's rows 2 and 3 in order, then the least laxity that one job more can have.
 #![tactic(auto)]
 
-ghost use Rattle.std.specs.Prelude.{◌≡◌};
+ghost use Rattle.std.specs.Prelude.{◌≡◌, ◌≤◌, IfOk, IfSome};
 ghost use Rattle.board.specs.Promise.{promised_refused, promised};
 ghost use Rattle.board.specs.Refusals.{number_of};
-ghost use Rattle.packing.specs.Inner.Packed.{board_of};
-ghost use Rattle.promising.specs.Inner.Seen.{promised_seen, promised_as};
+ghost use Rattle.promising.specs.Inner.Seen.{PromisedOf};
 
 use board::{Board, Laxity, Promised, Refusal};
 use packing::Packed;
@@ -13,7 +12,8 @@ use packing::Packed;
 // What can be promised beside the jobs that are seen of the board that arrays hold, sound or not: the least laxity, if there is one. On a sound board these
 // are all.
 pub fn promise_packed(b: &Packed) -> Result<Option<Laxity>, Refusal>
-    ensures { promised_as result ≡ promised_seen (board_of b.now) }
+    ensures promised { PromisedOf b.now.head b.now.keys result }
+    ensures one_slot { IfOk result (λ laxity. IfSome laxity (λ some. 1 ≤ some.0)) }
 {
     if b.head.slot.0 == Board::LAST_SLOT + 1 {
         return Err(Refusal::BookEnded);

@@ -6,6 +6,7 @@ use lib.Dec.{lit<}
 use lib.Pow.{shl_exact, pow_mono}
 use Rattle.board.specs.Limits.{longest_laxity, deepest}
 use Rattle.board.specs.Tally.{tally_grades, cell}
+use Rattle.counts.specs.Counts.{cells}
 use Rattle.search.specs.Inner.Start.{Start}
 use Rattle.search.proofs.Start.{start_short}
 
@@ -27,8 +28,8 @@ module _ (start left k : ℕ) (row : k < longest_laxity) (fits : Start deepest s
   column_width = shl_exact 1 left 64 (lit< tt) (omega (arith, column_short)) ∙ one-mul (2 ^ left)
 
   -- the last is one of the counts
-  pub column_inside : k * 8 + start * (1 * 2 ^ left % 2 ^ 64) + 1 * 2 ^ left % 2 ^ 64 ≤ 192
-  unfolding longest_laxity deepest
+  pub column_inside : k * 8 + start * (1 * 2 ^ left % 2 ^ 64) + 1 * 2 ^ left % 2 ^ 64 ≤ cells
+  unfolding cells longest_laxity tally_grades deepest
   column_inside = omega (arith, row, fits, column_width, ap (λ n. start * n) column_width)
 
   abbrev first : ℕ
@@ -47,7 +48,7 @@ module _ (start left k : ℕ) (row : k < longest_laxity) (fits : Start deepest s
       ∙ get_or-drop first t i 0
       ∙ ap (λ j. get_or t j 0) (omega (arith, e))
 
-  pub all_cells : (t : List ℕ) → length t ≡ 192 → length (cells_in t) ≡ 2 ^ left
+  pub all_cells : (t : List ℕ) → length t ≡ cells → length (cells_in t) ≡ 2 ^ left
   all_cells t l =
       let n = first + 1 * 2 ^ left % 2 ^ 64 - first in
       omega (arith, length-take n (drop first t), length-drop first t, l, column_inside, column_width)

@@ -51,7 +51,7 @@ sum_append f m zero = let e : m + 0 ≡ m = omega arith in omega (arith, ap (sum
 sum_append f m (suc n) = let e : m + suc n ≡ suc (m + n) = omega arith in omega (arith, ap (sum f) e, sum_append f m n)
 
 -- a column is that of the start with 0 behind it and that with 1
-column_halves : (t : List ℕ) (start left k : ℕ) → 1 ≤ left → column t start left k ≡ column t (start * 2) (left - 1) k + column t (start * 2 + 1) (left - 1) k
+pub column_halves : (t : List ℕ) (start left k : ℕ) → 1 ≤ left → column t start left k ≡ column t (start * 2) (left - 1) k + column t (start * 2 + 1) (left - 1) k
 unfolding column cell
 column_halves t start left k some =
     let w = 2 ^ (left - 1) in

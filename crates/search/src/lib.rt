@@ -3,16 +3,11 @@
 // It takes any board, and goes by the jobs that it sees there; on a sound board these are all.
 #![tactic(auto)]
 
-ghost use Rattle.std.specs.Prelude.{◌≡◌};
-ghost use Rattle.rule.specs.Promise.{least_promised};
-ghost use Rattle.board.specs.Limits.{longest_laxity, deepest};
-ghost use Rattle.board.specs.Held.{slot_of};
-ghost use Rattle.packing.specs.Inner.Packed.{board_of};
-ghost use Rattle.counts.specs.Seen.{seen};
-ghost use Rattle.counts.specs.Counts.{Counted};
+ghost use Rattle.std.specs.Prelude.{◌≤◌, IfSome};
+ghost use Rattle.board.specs.Limits.{deepest};
+ghost use Rattle.counts.specs.Inner.Packed.{CountsPacked};
 ghost use Rattle.search.specs.Inner.Answers.{TightOf, laxity_in};
-ghost use Rattle.search.specs.Inner.Found.{BakedSeen, chosen_of};
-ghost use Rattle.search.specs.Inner.Seen.{bakes_seen};
+ghost use Rattle.search.specs.Inner.Found.{ChosenPacked, BakedPacked, PromisedPacked};
 
 use board::{Laxity, Slot};
 use counts::CELLS;
@@ -46,9 +41,9 @@ pub struct Baked {
 // The job that the slot bakes, by the counts of the jobs seen; `all` says whether there are any. Of the grade that the search ends at it is the soonest job, which
 // is in the no-regret set, since the tight laxity of the grade's jobs is one that some of them has, and no laxity is less than that of the soonest.
 fn choose(b: &Packed, counts: &[u16; CELLS], all: Option<Best>) -> Option<Chosen>
-    requires counted { Counted (slot_of (board_of b.now)) (seen (board_of b.now)) counts.now }
+    requires counted { CountsPacked b.now.head b.now.keys counts.now }
     requires tight { TightOf counts.now 0 deepest all }
-    ensures { result ≡ chosen_of (bakes_seen (board_of b.now)) }
+    ensures { ChosenPacked b.now.head b.now.keys b.now.tickets result }
 {
     if all.is_none() {
         return None;
@@ -70,7 +65,7 @@ fn choose(b: &Packed, counts: &[u16; CELLS], all: Option<Best>) -> Option<Chosen
 
 // The job that the slot bakes of the jobs seen, with their shortfall, which is by the smallest excess of all jobs, and their counts.
 pub fn bake(b: &Packed) -> Baked
-    ensures { BakedSeen (board_of b.now) result }
+    ensures { BakedPacked b.now.head b.now.keys b.now.tickets result }
 {
     let counts = counts::counts_of(b);
     let all = tight::tight(&counts);
@@ -85,7 +80,8 @@ pub fn bake(b: &Packed) -> Baked
 
 // What can still be promised: the least laxity that one job more can have and be baked with all jobs seen, if there is one.
 pub fn promise(b: &Packed) -> Option<Laxity>
-    ensures { laxity_in result ≡ least_promised longest_laxity (slot_of (board_of b.now)) (seen (board_of b.now)) }
+    ensures least { PromisedPacked b.now.head b.now.keys (laxity_in result) }
+    ensures one_slot { IfSome result (λ laxity. 1 ≤ laxity.0) }
 {
     let counts = counts::counts_of(b);
     room::after_full(&counts)

@@ -1,4 +1,5 @@
 // Room for one job more, from counts.
+ghost use Rattle.std.specs.Prelude.{◌≤◌, IfSome};
 ghost use Rattle.search.specs.Inner.Answers.{PromiseFor, laxity_in};
 
 use crate::columns;
@@ -10,7 +11,8 @@ use counts::{CELLS, LAXITIES};
 // more are within is overfull: it is the one after the last full one, if that is not the longest and none is overfull.
 #[tactic(auto, unfolding(board::specs::Limits::longest_laxity, board::specs::Limits::deepest))]
 pub(crate) fn after_full(counts: &[u16; CELLS]) -> Option<Laxity>
-    ensures { PromiseFor counts.now (laxity_in result) }
+    ensures least { PromiseFor counts.now (laxity_in result) }
+    ensures one_slot { IfSome result (λ laxity. 1 ≤ laxity.0) }
 {
     let all = Prefix {
         bits: 0,

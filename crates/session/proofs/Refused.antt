@@ -39,7 +39,7 @@ module _ (r : Refusal) where
         → DidAlone (open_day p y) (step_admit (board_of p) t w g) (record { day = open_day q y; answer = Refused (number_of r); listed = 0 })
     admit_err t w g e =
         let a = admitted_answer (Err r) (board_of q) in
-        kept_did p q y (number_of r) _ s (admitted_kept _ t w g a e (some_number r)) (admit_refused p y s t w g a e (some_number r))
+        kept_did p q y (number_of r) _ s (admitted_kept _ t w g a e (some_number r)) (admit_refused (board_of p) t w g a e (some_number r))
 
     pub close_err : closed_answer (Err r) (board_of q) ≡ closed (board_of p) places_held
         → DidAlone (open_day p y) (step_close (board_of p)) (record { day = open_day q y; answer = Refused (number_of r); listed = 0 })
@@ -51,8 +51,8 @@ module _ (r : Refusal) where
   module _ (p : Packed) (y : Tally) (s : sound (board_of p) ≡ true) where
     pub promise_err : promised_as (Err r) ≡ promised (board_of p)
         → DidAlone (open_day p y) (step_promise (board_of p)) (record { day = open_day p y; answer = Refused (number_of r); listed = 0 })
-    promise_err e = kept_did p p y (number_of r) _ s refl (promise_refused p y s (promised_as (Err r)) e (some_number r))
+    promise_err e = kept_did p p y (number_of r) _ s refl (promise_refused (board_of p) (promised_as (Err r)) e (some_number r))
 
     pub withdraw_err : (b : Board) (t : ℕ) → withdrawn_of (Err r) b ≡ withdrawn (board_of p) t
         → DidAlone (open_day p y) (step_withdraw (board_of p) t) (record { day = open_day p y; answer = Refused (number_of r); listed = 0 })
-    withdraw_err b t e = kept_did p p y (number_of r) _ s refl (withdraw_refused p y s t (withdrawn_of (Err r) b) e (some_number r))
+    withdraw_err b t e = kept_did p p y (number_of r) _ s refl (withdraw_refused (board_of p) t (withdrawn_of (Err r) b) e (some_number r))

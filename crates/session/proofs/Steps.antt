@@ -69,13 +69,13 @@ module _ (day : Day) (d : ℕ) (o : Opened) (e : o ≡ opened d) where
       did_as (open_step h)
       (record { good = rw q (opened_is_sound h); session = ap (λ b. open_session b day.tally) q; few = omega arith; answer = refl })
 
+pub admit_refused : (b : Board) (t w g : ℕ) (a : Admitted) → a ≡ admitted b t w g → (a.refusal ≡ 0 → ⊥) → step_admit b t w g ≡ step_refused (some b) a.refusal
+unfolding step_admit
+admit_refused b t w g a e h = rw (← e) (cond_false _ _ _ (ne_eqb a.refusal 0 h))
+
 module _ (p : Packed) (y : Tally) (s : sound (board_of p) ≡ true) (t w g : ℕ) (a : Admitted) (e : a ≡ admitted (board_of p) t w g) where
   abbrev b : Board
   b = board_of p
-
-  pub admit_refused : (a.refusal ≡ 0 → ⊥) → step_admit b t w g ≡ step_refused (some b) a.refusal
-  unfolding step_admit
-  admit_refused h = rw (← e) (cond_false _ _ _ (ne_eqb a.refusal 0 h))
 
   admit_step : a.refusal ≡ 0
       → step_admit b t w g ≡ record { answer = an_admitting t a.last.0; board = some a.board; events = admit_events b t w g }
@@ -98,13 +98,13 @@ module _ (p : Packed) (y : Tally) (s : sound (board_of p) ≡ true) (t w g : ℕ
         answer = refl;
       })
 
+pub promise_refused : (b : Board) (r : Promised) → r ≡ promised b → (r.refusal ≡ 0 → ⊥) → step_promise b ≡ step_refused (some b) r.refusal
+unfolding step_promise
+promise_refused b r e h = rw (← e) (cond_false _ _ _ (ne_eqb r.refusal 0 h))
+
 module _ (p : Packed) (y : Tally) (s : sound (board_of p) ≡ true) (r : Promised) (e : r ≡ promised (board_of p)) where
   abbrev pb : Board
   pb = board_of p
-
-  pub promise_refused : (r.refusal ≡ 0 → ⊥) → step_promise pb ≡ step_refused (some pb) r.refusal
-  unfolding step_promise
-  promise_refused h = rw (← e) (cond_false _ _ _ (ne_eqb r.refusal 0 h))
 
   promise_step : r.refusal ≡ 0 → step_promise pb ≡ record { answer = a_promise r.laxity.0; board = some pb; events = [] }
   unfolding step_promise
@@ -115,13 +115,13 @@ module _ (p : Packed) (y : Tally) (s : sound (board_of p) ≡ true) (r : Promise
   unfolding answer_of session_of session_after fed
   promise_did h T G = did_as (promise_step h) (record { good = s; session = refl; few = omega arith; answer = refl })
 
+pub withdraw_refused : (b : Board) (t : ℕ) (w : Withdrawn) → w ≡ withdrawn b t → (w.refusal ≡ 0 → ⊥) → step_withdraw b t ≡ step_refused (some b) w.refusal
+unfolding step_withdraw
+withdraw_refused b t w e h = rw (← e) (cond_false _ _ _ (ne_eqb w.refusal 0 h))
+
 module _ (p : Packed) (y : Tally) (s : sound (board_of p) ≡ true) (t : ℕ) (w : Withdrawn) (e : w ≡ withdrawn (board_of p) t) where
   abbrev wb : Board
   wb = board_of p
-
-  pub withdraw_refused : (w.refusal ≡ 0 → ⊥) → step_withdraw wb t ≡ step_refused (some wb) w.refusal
-  unfolding step_withdraw
-  withdraw_refused h = rw (← e) (cond_false _ _ _ (ne_eqb w.refusal 0 h))
 
   withdraw_step : w.refusal ≡ 0
       → step_withdraw wb t ≡ record { answer = a_withdrawal t; board = some w.board; events = withdraw_events wb t }

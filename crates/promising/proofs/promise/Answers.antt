@@ -9,8 +9,8 @@ returns-then-not-is_sound c = promise_unsound c.args.b c.refused.result (sym c.i
 pub returns-in-Ok : goal.returns-in-Ok
 returns-in-Ok c =
     rw (c.unwrap_or.ensures, laxity_unwrapped)
-    (c.in-Ok.ensures ∙ promise_packed_sound c.args.b _ (sym c.is_sound.ensures ∙ c.if-not-is_sound.false) c.unpack.ensures)
+    (c.in-Ok.ensures.promised _ _ ∙ promise_packed_sound c.args.b _ (sym c.is_sound.ensures ∙ c.if-not-is_sound.false) c.unpack.ensures)
 
 pub returns-in-Err : goal.returns-in-Err
 returns-in-Err c =
-    c.refused-in-Err.ensures ∙ c.in-Err.ensures ∙ promise_packed_sound c.args.b _ (sym c.is_sound.ensures ∙ c.if-not-is_sound.false) c.unpack.ensures
+    c.refused-in-Err.ensures ∙ c.in-Err.ensures.promised _ _ ∙ promise_packed_sound c.args.b _ (sym c.is_sound.ensures ∙ c.if-not-is_sound.false) c.unpack.ensures

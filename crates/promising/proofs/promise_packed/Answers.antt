@@ -7,10 +7,10 @@ use Rattle.packing.specs.Inner.Packed.{board_in}
 use Rattle.promising.specs.Inner.Seen.{promised_seen}
 use Rattle.promising.proofs.promise_packed.Goals as goal
 
-pub returns-then-b : goal.returns-then-b
+pub returns-then-b-clause-promised : goal.returns-then-b-clause-promised
 unfolding promised_seen board_in promise_rows first_given ◌if◌ promised_with last_slot
-returns-then-b c = simp (eq-eqb _ _ c.if-b.true)
+returns-then-b-clause-promised c T A = simp (eq-eqb _ _ c.if-b.true)
 
-pub returns : goal.returns
+pub returns-clause-promised : goal.returns-clause-promised
 unfolding promised_seen board_in promise_rows first_given ◌if◌ promised_with last_slot
-returns c = simp (ne_eqb _ _ c.if-b.false) (ap (promised_with 0) c.promise.ensures)
+returns-clause-promised c T A = simp (ne_eqb _ _ c.if-b.false) (ap (promised_with 0) (c.promise.ensures.least T A))

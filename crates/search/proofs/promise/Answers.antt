@@ -2,5 +2,5 @@
 use Rattle.search.proofs.Seeing.{counts_seen_deepest}
 use Rattle.search.proofs.promise.Goals as goal
 
-pub returns : goal.returns
-returns c = c.after_full.ensures _ _ (counts_seen_deepest _ c.counts_of-counts.ensures)
+pub returns-clause-least : goal.returns-clause-least
+returns-clause-least c T A = c.after_full.ensures.least _ _ (counts_seen_deepest _ (c.counts_of-counts.ensures T A))

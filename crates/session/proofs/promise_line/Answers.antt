@@ -16,11 +16,11 @@ use Rattle.session.proofs.promise_line.Goals as goal
 pub returns-in_err-laxity : goal.returns-in_err-laxity
 returns-in_err-laxity c t s T G =
     let p = err_from_is_err_and c.from_residual.result c.from_residual.ensures.1 in
-    rw (p.1, p.2) (promise_err _ c.args.board.now t s (c.in_err-laxity.ensures ∙ promise_on_sound _ s) T G)
+    rw (p.1, p.2) (promise_err _ c.args.board.now t s (c.in_err-laxity.ensures.promised _ _ ∙ promise_on_sound _ s) T G)
 
 pub returns : goal.returns
 returns c t s T G =
     let p = c.args.board.now in
     subst (λ (l : Laxity). Did (open_day p t) (step_promise (board_of p)) (record { day = open_day p t; answer = WaitPromised l; listed = 0 }) T G)
     (sym (c.unwrap_or.ensures ∙ laxity_unwrapped c.in_ok-laxity.laxity))
-    (promise_did p t s (promised_as (Ok c.in_ok-laxity.laxity)) (c.in_ok-laxity.ensures ∙ promise_on_sound _ s) refl T G)
+    (promise_did p t s (promised_as (Ok c.in_ok-laxity.laxity)) (c.in_ok-laxity.ensures.promised _ _ ∙ promise_on_sound _ s) refl T G)

@@ -10,9 +10,9 @@ pub loop-k-init : goal.loop-k-init
 unfolding deepest sum
 loop-k-init c = record { full_small = omega arith; few = omega arith; counted = refl; last_full = full_none _ }
 
-pub returns-then-laxity-within : goal.returns-then-laxity-within
+pub returns-then-laxity-within-clause-least : goal.returns-then-laxity-within-clause-least
 unfolding longest_laxity deepest
-returns-then-laxity-within c =
+returns-then-laxity-within-clause-least c =
     let next = within_more c.args.counts.now c.loop-k.k c.column_of-within.result c.loop-k.invariant.counted c.column_of-within.ensures.0 in
     overfull_found _ (c.loop-k.k + 1) (omega arith) (omega (arith, next))
 
@@ -34,15 +34,15 @@ loop-k-preserved c =
           })
     ]
 
-pub returns-then-full-eq-LONGEST_LAXITY : goal.returns-then-full-eq-LONGEST_LAXITY
+pub returns-then-full-eq-LONGEST_LAXITY-clause-least : goal.returns-then-full-eq-LONGEST_LAXITY-clause-least
 unfolding longest_laxity
-returns-then-full-eq-LONGEST_LAXITY c =
+returns-then-full-eq-LONGEST_LAXITY-clause-least c =
     let whole : c.loop-k.k ≡ longest_laxity = omega arith in
     sold_out_found _ c.loop-k.invariant.last_full whole (omega arith)
 
-pub returns : goal.returns
+pub returns-clause-least : goal.returns-clause-least
 unfolding longest_laxity
-returns c =
+returns-clause-least c =
     let whole : c.loop-k.k ≡ longest_laxity = omega arith in
     let i = c.loop-k.invariant in
     promise_found _ i.last_full whole (omega arith)
