@@ -1,4 +1,5 @@
 pub mod ByNumber
 pub mod InSlot
 pub mod OnSound
+pub mod IfFree
 pub mod InArrays

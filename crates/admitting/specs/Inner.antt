@@ -1,3 +1,4 @@
 pub mod InLimits
 pub mod Answer
 pub mod Placed
+pub mod Whole

@@ -31,7 +31,7 @@ impl Listed<'_> {
     // A job seeks a slot: of its window, the first unvisited one that is free or whose holder can move. Whether it found one.
     #[cycle(move_holder_seek)]
     #[tactic(auto, using(crate::proofs::Searching::Listed::from_one, crate::proofs::Searching::Listed::to_end))]
-    pub fn seek(&self, job: usize, trail: &mut Trail) -> bool
+    pub(crate) fn seek(&self, job: usize, trail: &mut Trail) -> bool
         requires { Ready self.now.windows.now job trail.old }
         ensures { Sought self.now.windows.now job trail.old trail.new result }
     {

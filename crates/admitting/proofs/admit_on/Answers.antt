@@ -1,13 +1,19 @@
 -- The answer goes by the first number that is given.
-use mathlib.Core.Path.{refl, ap}
+use mathlib.Core.Path.{refl, ap, ◌∙◌}
+use Prim.Native.Nat.{◌+◌, ◌-◌}
 use native.Mathlib.Omega.{arith}
 use Rattle.std.proofs.lemmas.Result.{err_from_is_err_and}
+use Rattle.board.specs.declared.Slot.{Slot}
+use Rattle.board.specs.declared.Place.{Place}
 use Rattle.board.specs.declared.refusal.Refusal.TheVariants.{NotSound}
 use Rattle.board.specs.Limits.{longest_laxity, places_held, last_slot, deepest}
+use Rattle.board.specs.Held.{slot_number}
 use Rattle.board.specs.Refusals.{number_of}
 use Rattle.packing.specs.declared.Head.{Head}
 use Rattle.limits.proofs.Limits.{within}
-use Rattle.admitting.proofs.ByNumber.{some_number, number_out, number_row, number_full, refused_by, placed_by, limits_read, row_read, passed}
+use Rattle.admitting.specs.Inner.Placed.{with_place_if_free}
+use Rattle.admitting.proofs.ByNumber.{some_number, number_out, number_row, number_full, refused_by, placed_by, limits_read, row_read, rows_passed, passed}
+use Rattle.admitting.proofs.IfFree.{put_if_free}
 use Rattle.admitting.proofs.admit_on.Goals as goal
 
 pub returns-then-not-in_limits : goal.returns-then-not-in_limits
@@ -45,39 +51,34 @@ returns-then-head-ge-PLACES g c =
     (number_full b a.ticket a.laxity.0 a.grade inside _ _ c.in_slot-taken.ensures given refl (omega arith))
 
 pub overflow_add-last : goal.overflow_add-last
-unfolding longest_laxity last_slot places_held
+unfolding longest_laxity last_slot
 overflow_add-last g c =
     let a = c.args in
-    let p = passed (g.B.HoldsBoard.board a.b.now) _ c.head-head.ensures a.ticket a.laxity.0 a.grade _ c.in_limits.ensures c.if-not-in_limits.false _ c.in_slot-taken.ensures c.in_ok-first_row.ensures c.if-head-ge-PLACES.false in
+    let p = rows_passed (g.B.HoldsBoard.board a.b.now) _ c.head-head.ensures a.ticket a.laxity.0 a.grade _ c.in_limits.ensures c.if-not-in_limits.false _ c.in_slot-taken.ensures c.in_ok-first_row.ensures in
     let slot = ap (λ (h : Head). h.slot.0) c.head-head.ensures in
-    omega (arith, p.let_in)
+    omega (arith, p)
 
 pub overflow_sub-last : goal.overflow_sub-last
-unfolding places_held
 overflow_sub-last g c =
     let a = c.args in
-    let p = passed (g.B.HoldsBoard.board a.b.now) _ c.head-head.ensures a.ticket a.laxity.0 a.grade _ c.in_limits.ensures c.if-not-in_limits.false _ c.in_slot-taken.ensures c.in_ok-first_row.ensures c.if-head-ge-PLACES.false in
-    omega (arith, p.let_in)
+    let p = rows_passed (g.B.HoldsBoard.board a.b.now) _ c.head-head.ensures a.ticket a.laxity.0 a.grade _ c.in_limits.ensures c.if-not-in_limits.false _ c.in_slot-taken.ensures c.in_ok-first_row.ensures in
+    omega (arith, p)
 
 pub overflow_cast-grade : goal.overflow_cast-grade
-unfolding places_held deepest
+unfolding deepest
 overflow_cast-grade g c =
     let a = c.args in
-    let p = passed (g.B.HoldsBoard.board a.b.now) _ c.head-head.ensures a.ticket a.laxity.0 a.grade _ c.in_limits.ensures c.if-not-in_limits.false _ c.in_slot-taken.ensures c.in_ok-first_row.ensures c.if-head-ge-PLACES.false in
-    omega (arith, p.let_in)
-
-pub put-requires : goal.put-requires
-unfolding places_held
-put-requires g c =
-    let a = c.args in
-    let p = passed (g.B.HoldsBoard.board a.b.now) _ c.head-head.ensures a.ticket a.laxity.0 a.grade _ c.in_limits.ensures c.if-not-in_limits.false _ c.in_slot-taken.ensures c.in_ok-first_row.ensures c.if-head-ge-PLACES.false in
-    let slot = ap (λ (h : Head). h.slot.0) c.head-head.ensures in
-    record { free = p.let_in.free; in_book = omega (arith, p.let_in); graded = p.let_in.graded }
+    let p = rows_passed (g.B.HoldsBoard.board a.b.now) _ c.head-head.ensures a.ticket a.laxity.0 a.grade _ c.in_limits.ensures c.if-not-in_limits.false _ c.in_slot-taken.ensures c.in_ok-first_row.ensures in
+    omega (arith, p)
 
 pub returns : goal.returns
 unfolding places_held
 returns g c =
     let b = g.B.HoldsBoard.board c.args.b.now in
     let a = c.args in
-    let p = passed b _ c.head-head.ensures a.ticket a.laxity.0 a.grade _ c.in_limits.ensures c.if-not-in_limits.false _ c.in_slot-taken.ensures c.in_ok-first_row.ensures c.if-head-ge-PLACES.false in
-    placed_by b _ a.ticket a.laxity.0 a.grade c.head-head.result.slot p.none (ap (λ (h : Head). h.slot) c.head-head.ensures) c.put.ensures
+    let p = passed b _ c.head-head.ensures a.ticket a.laxity.0 a.grade _ c.in_limits.ensures c.if-not-in_limits.false _ c.in_slot-taken.ensures c.in_ok-first_row.ensures (omega arith) in
+    let slot = ap (λ (h : Head). h.slot) c.head-head.ensures in
+    let number = ap (λ (s : Slot). s.0) slot in
+    let job : Place = record { ticket = a.ticket; admitted = c.head-head.result.slot; last = slot_number (c.head-head.result.slot.0 + a.laxity.0 - 1); grade = a.grade } in
+    let whole = g.met.B.HoldsBoard.holds_whole b job (record { free = p.let_in.free; in_book = omega (arith, p.let_in); graded = p.let_in.graded }) in
+    placed_by b _ a.ticket a.laxity.0 a.grade c.head-head.result.slot p.none slot (c.put.ensures ∙ ap (with_place_if_free b) whole ∙ put_if_free b job p.let_in.free)

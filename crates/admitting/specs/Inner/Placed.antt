@@ -1,5 +1,5 @@
 -- What admitting reads of a board, and the job that it puts in the first free place.
-use Rattle.std.specs.Prelude.{ℕ, ◌+◌, ◌^◌, ◌≤◌, ◌<◌, get_or, set}
+use Rattle.std.specs.Prelude.{cond, ℕ, ◌+◌, ◌^◌, ◌≤◌, ◌<◌, leb, get_or, set}
 use Rattle.board.specs.declared.Slot.{Slot}
 use Rattle.board.specs.declared.Place.{Place}
 use Rattle.board.specs.declared.Board.{Board}
@@ -11,7 +11,7 @@ use Rattle.packing.specs.declared.Head.{Head}
 abbrev pub head_of : Board → Head
 head_of b = record { depth = b.depth; slot = b.slot; highest = b.highest; count = b.count }
 
--- the slot that the job in a place was admitted in
+-- the slot that the job in a place was admitted in, 0 past the places
 abbrev pub admitted_at : Board → ℕ → Slot
 admitted_at b at = (get_or b.places at blank).admitted
 
@@ -24,3 +24,7 @@ pub record Placeable (b : Board) (job : Place) : Type 0 where
 -- the board with the job
 abbrev pub with_place : Board → Place → Board
 with_place b job = record { depth = b.depth; slot = b.slot; highest = job.ticket; count = b.count + 1; places = set b.places b.count job }
+
+-- the board with the job where it has a free place, else as it was
+unfoldable pub with_place_if_free : Board → Place → Board
+with_place_if_free b job = cond (leb places_held b.count) b (with_place b job)
