@@ -96,7 +96,7 @@ module _ (f : Bytes) where
   unfolding is_number
   too_great h = no_number (no_right (leb 1 (length f) && leb (length f) 10 && every is_digit f) _ (lt-leb (value f) 4_294_967_295 h))
 
-  in_range : 1 ≤ length f → length f ≤ 10 → every is_digit f ≡ true → value f ≤ 4_294_967_295 → (0, some (value f)) ≡ field_read a_number f
+  pub in_range : 1 ≤ length f → length f ≤ 10 → every is_digit f ≡ true → value f ≤ 4_294_967_295 → (0, some (value f)) ≡ field_read a_number f
   unfolding is_number field_read readable_as value_as unless first_given ◌if◌ result
   in_range h k e m = simp (le-leb 1 (length f) h, le-leb (length f) 10 k, e, le-leb (value f) 4_294_967_295 m)
 

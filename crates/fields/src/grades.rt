@@ -26,6 +26,7 @@ pub struct GradeAt {
 }
 
 // A grade, from where its field begins: a number, or blank.
+// Not `map`: 01 has each field's answer taken apart by let .. else.
 pub fn grade_at(line: &[u8], from: usize) -> GradeAt
     ensures { (result.end ≡ from + before comma (drop from line.now))
         × (grade_result result.grade ≡ field_read a_grade (field 0 (drop from line.now))) }
@@ -39,8 +40,14 @@ pub fn grade_at(line: &[u8], from: usize) -> GradeAt
             end,
         };
     }
+    let Ok(n) = read.number else {
+        return GradeAt {
+            grade: Err(Refusal::NotANumber),
+            end,
+        };
+    };
     GradeAt {
-        grade: read.number.map(Grade::Number),
+        grade: Ok(Grade::Number(n)),
         end,
     }
 }

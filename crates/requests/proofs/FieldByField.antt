@@ -31,15 +31,15 @@ module _ (k : Kind) (f : Bytes) where
   good_says v e = let s = row_not_given 13 (not (readable_as k f)) (value_as k f) v e in (not-false (readable_as k f) s.0, s.1)
 
 module _ (k : Kind) (ks : List Kind) (q : Asks (k ∷ ks)) (n : ℕ) (l : Bytes) where
-  bad_field : (m : ℕ) → (m, none) ≡ field_read k (field n l) → (m, none) ≡ fields_read (k ∷ ks) q n l
+  pub bad_field : (m : ℕ) → (m, none) ≡ field_read k (field n l) → (14, none) ≡ fields_read (k ∷ ks) q n l
   unfolding fields_read readable unless first_given ◌if◌ result
-  bad_field m e = let s = bad_says k (field n l) m e in ap (λ (i : ℕ). (i, none)) s.1 ∙ simp s.0
+  bad_field m e = simp (bad_says k (field n l) m e).0
 
-  good_field : (v : ReadAs k) → (0, some v) ≡ field_read k (field n l) → fields_read ks (q v) (suc n) l ≡ fields_read (k ∷ ks) q n l
+  pub good_field : (v : ReadAs k) → (0, some v) ≡ field_read k (field n l) → fields_read ks (q v) (suc n) l ≡ fields_read (k ∷ ks) q n l
   unfolding fields_read readable with_values
   good_field v e = let s = good_says k (field n l) v e in simp (s.0, s.1)
 
-no_more_fields : (q : Request) (n : ℕ) (l : Bytes) → (0, some q) ≡ fields_read [] q n l
+pub no_more_fields : (q : Request) (n : ℕ) (l : Bytes) → (0, some q) ≡ fields_read [] q n l
 unfolding fields_read readable with_values unless first_given ◌if◌ result
 no_more_fields q n l = refl
 
@@ -54,7 +54,7 @@ module _ (l : Bytes) where
   one_number q (Ok x) (Ok a) e m h =
       ap (λ (k : Request). (0, some k)) (h x a m) ∙ no_more_fields (q x) 2 l ∙ good_field a_number [] q 1 l x e
   one_number q (Ok x) (Err y) e m h = absurd m
-  one_number q (Err y) r e m h = ap asked_result m ∙ bad_field a_number [] q 1 l _ e
+  one_number q (Err y) r e m h = ap asked_result m ∙ ap (λ (i : ℕ). (i, none)) (bad_says a_number (field 1 l) _ e).1 ∙ bad_field a_number [] q 1 l _ e
 
   -- the values of a line that admits
   pub three_values : (t w : Tried ℕ Refusal) (g : Tried Grade Refusal)

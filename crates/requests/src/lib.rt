@@ -49,19 +49,27 @@ fn read_alone(line: &[u8], asked: Asked) -> Read
 }
 
 // The field of a line that has one number behind its letter: row 14, or what the number asks for.
+// Not `map`: 01 has each field's answer taken apart by let .. else.
 fn read_number<F: FnOnce(u32) -> Asked>(line: &[u8], asks: F) -> Read
     requires { F.IsAlwaysCallable asks }
     ensures { length (field 0 line.now) ≡ 1 → OneNumber (F.post asks) line.now result }
 {
     let read = number_at(line, LETTER_END + 1);
     let whole = read.end == line.len();
+    let Ok(number) = read.number else {
+        return Read {
+            asked: Err(Refusal::NotANumber),
+            whole,
+        };
+    };
     Read {
-        asked: read.number.map(asks),
+        asked: Ok(asks(number)),
         whole,
     }
 }
 
-// What a line that admits asks for, by its fields: the first that is refused, or the values.
+// What a line that admits asks for, by its fields: row 14 from the first that is refused, or the values.
+// Not `?`: 01 has each field's answer taken apart by let .. else.
 fn admit(
     ticket: Result<u32, Refusal>,
     laxity: Result<u32, Refusal>,
@@ -69,7 +77,16 @@ fn admit(
 ) -> Result<Asked, Refusal>
     ensures { result ≡ admits ticket laxity grade }
 {
-    Ok(Asked::Admit(ticket?, Laxity(laxity?), grade?))
+    let Ok(ticket) = ticket else {
+        return Err(Refusal::NotANumber);
+    };
+    let Ok(laxity) = laxity else {
+        return Err(Refusal::NotANumber);
+    };
+    let Ok(grade) = grade else {
+        return Err(Refusal::NotANumber);
+    };
+    Ok(Asked::Admit(ticket, Laxity(laxity), grade))
 }
 
 // The fields of a line that admits: row 14, or the values.

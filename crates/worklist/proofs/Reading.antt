@@ -48,18 +48,15 @@ module _ (l : Bytes) where
       there : eqb (length (fields l)) 2 ≡ true
       there = sym two ∙ eq-eqb b (length l) h
 
-      pub first_bad : (m : ℕ) → (m, none) ≡ field_read a_number (field 0 l) → (m, none) ≡ window_read l
+      pub first_bad : (m : ℕ) → (m, none) ≡ field_read a_number (field 0 l) → (14, none) ≡ window_read l
       unfolding window_read window_rows too_long first_given ◌if◌ result readable
-      first_bad m e =
-          let s = bad_says a_number (field 0 l) m e in
-          ap (λ (i : ℕ). (i, none)) s.1 ∙ simp (le-ltb longest_line (length l) short, there, s.0)
+      first_bad m e = simp (le-ltb longest_line (length l) short, there, (bad_says a_number (field 0 l) m e).0)
 
       module _ (m : ℕ) (em : (0, some m) ≡ field_read a_number (field 0 l)) where
-        pub second_bad : (n : ℕ) → (n, none) ≡ field_read a_number (field 1 l) → (n, none) ≡ window_read l
+        pub second_bad : (n : ℕ) → (n, none) ≡ field_read a_number (field 1 l) → (14, none) ≡ window_read l
         unfolding window_read window_rows too_long first_given ◌if◌ result readable
         second_bad n e =
-            let s = bad_says a_number (field 1 l) n e in
-            ap (λ (i : ℕ). (i, none)) s.1 ∙ simp (le-ltb longest_line (length l) short, there, (good_says a_number (field 0 l) m em).0, s.0)
+            simp (le-ltb longest_line (length l) short, there, (good_says a_number (field 0 l) m em).0, (bad_says a_number (field 1 l) n e).0)
 
         pub both_good : (n : ℕ) → (0, some n) ≡ field_read a_number (field 1 l)
             → (0, some (record { first = record { 0 = m }; last = record { 0 = n } })) ≡ window_read l

@@ -56,6 +56,7 @@ fn blank() -> Window
 }
 
 // Reads a line: its window, or the row that refuses it.
+// Not `?`: 01 has each field's answer taken apart by let .. else.
 pub fn read_window(line: &[u8]) -> Result<Window, Refusal>
     ensures { window_result result ≡ window_read line.now }
 {
@@ -67,8 +68,12 @@ pub fn read_window(line: &[u8]) -> Result<Window, Refusal>
     if b.end != line.len() {
         return Err(Refusal::FieldCount);
     }
-    let first = a.number?;
-    let last = b.number?;
+    let Ok(first) = a.number else {
+        return Err(Refusal::NotANumber);
+    };
+    let Ok(last) = b.number else {
+        return Err(Refusal::NotANumber);
+    };
     Ok(Window {
         first: Slot(first),
         last: Slot(last),

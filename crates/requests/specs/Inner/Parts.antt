@@ -3,6 +3,7 @@ use Rattle.std.specs.Prelude.{◌≡◌, Bool, not, List, [], ◌∷◌, ℕ, eq
 use Rattle.std.proofs.Math.Option.{Option, none, some}
 use Rattle.board.specs.Rows.{◌if◌}
 use Rattle.board.specs.declared.refusal.Refusal.{Refusal}
+use Rattle.board.specs.declared.refusal.Refusal.TheVariants.{NotANumber}
 use Rattle.lines.specs.Bytes.{Bytes, fields}
 use Rattle.lines.specs.Fields.{Kind, a_number}
 use Rattle.lines.specs.Reading.{field, Request, Asks, Form, forms, form_in, fields_wanted, readable, with_values, request_by}
@@ -38,9 +39,9 @@ pub record OneNumber (asks : ℕ → Asked → Type 0) (l : Bytes) (r : Read) : 
   pub is_read : field_result number ≡ field_read a_number (field 1 l)
   pub asked : MatchResult number (λ n. IsOkAnd r.asked (asks n)) (λ e. r.asked ≡ Err e)
 
--- the values of a line that admits, or the row of the first that is refused
+-- the values of a line that admits, or row 14 from the first that is refused
 abbrev pub admits : Tried ℕ Refusal → Tried ℕ Refusal → Tried Grade Refusal → Tried Asked Refusal
-admits (Err e) w g = Err e
-admits (Ok t) (Err e) g = Err e
-admits (Ok t) (Ok w) (Err e) = Err e
+admits (Err e) w g = Err NotANumber
+admits (Ok t) (Err e) g = Err NotANumber
+admits (Ok t) (Ok w) (Err e) = Err NotANumber
 admits (Ok t) (Ok w) (Ok g) = Ok (Admit t (record { 0 = w }) g)

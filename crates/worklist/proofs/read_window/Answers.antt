@@ -1,11 +1,9 @@
 -- Each way out has passed the rows before it.
-use mathlib.Core.Path.{◌≡◌, refl, sym, ap, ◌∙◌}
+use mathlib.Core.Path.{refl, sym, ap, ◌∙◌}
 use mathlib.Core.List.{List}
 use Prim.Native.Nat.{ℕ, ◌≤◌}
 use native.Mathlib.Omega.{arith}
-use borrow.Author.Rules.{rules}
 use lib.ListN.{length}
-use Rattle.std.specs.Prelude.{Err}
 use Rattle.lines.specs.Reading.{longest_line}
 use Rattle.lines.specs.Fields.{a_number}
 use Rattle.fields.specs.Numbers.{field_result, field_read}
@@ -30,25 +28,21 @@ returns-then-b-line c =
     let l = c.args.line.now in
     row_13 l (short l (omega arith)) _ _ c.number_at-a.ensures.0 c.number_at-b.ensures.0 c.if-b-line.true
 
-pub returns-in_err-first : goal.returns-in_err-first
-returns-in_err-first c =
+pub returns-in_default : goal.returns-in_default
+returns-in_default c =
     let l = c.args.line.now in
-    let e : c.from_residual.result ≡ Err c.in_err-first.field-0.0 = search rules in
-    rw e
-    (first_bad l (short l (omega arith)) _ _ c.number_at-a.ensures.0 c.number_at-b.ensures.0 c.if-b-line.false
-    _ (sym (ap field_result c.in_err-first.was) ∙ c.number_at-a.ensures.1))
+    first_bad l (short l (omega arith)) _ _ c.number_at-a.ensures.0 c.number_at-b.ensures.0 c.if-b-line.false
+    _ (sym (ap field_result c.in_default.is) ∙ c.number_at-a.ensures.1)
 
-pub returns-in_err-last : goal.returns-in_err-last
-returns-in_err-last c =
+pub returns-in_default-number : goal.returns-in_default-number
+returns-in_default-number c =
     let l = c.args.line.now in
     let s = short l (omega arith) in
     let a = c.number_at-a.ensures in
     let b = c.number_at-b.ensures in
-    let e : c.from_residual-in_err-last.result ≡ Err c.in_err-last.field-0.0 = search rules in
-    rw e
-    (second_bad l s _ _ a.0 b.0 c.if-b-line.false
-    _ (sym (ap field_result c.in_ok-first.was) ∙ a.1)
-    _ (sym (ap field_result c.in_err-last.was) ∙ b.1 ∙ ap (field_read a_number) (sym (second_field l s _ _ a.0 b.0))))
+    second_bad l s _ _ a.0 b.0 c.if-b-line.false
+    _ (sym (ap field_result c.in-Ok.is) ∙ a.1)
+    _ (sym (ap field_result c.in_default-number.is) ∙ b.1 ∙ ap (field_read a_number) (sym (second_field l s _ _ a.0 b.0)))
 
 pub returns : goal.returns
 returns c =
@@ -57,5 +51,5 @@ returns c =
     let a = c.number_at-a.ensures in
     let b = c.number_at-b.ensures in
     both_good l s _ _ a.0 b.0 c.if-b-line.false
-    _ (sym (ap field_result c.in_ok-first.was) ∙ a.1)
-    _ (sym (ap field_result c.in_ok-last.was) ∙ b.1 ∙ ap (field_read a_number) (sym (second_field l s _ _ a.0 b.0)))
+    _ (sym (ap field_result c.in-Ok.is) ∙ a.1)
+    _ (sym (ap field_result c.in-Ok-number.is) ∙ b.1 ∙ ap (field_read a_number) (sym (second_field l s _ _ a.0 b.0)))
