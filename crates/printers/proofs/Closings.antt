@@ -74,7 +74,7 @@ pub record IsClosing (a : AnswerHeld) (T G : List ℕ) (f : FiguresHeld) : Type 
 abbrev pub figures_closed : ClosingHeld → (listed : ℕ) → FiguresHeld
 figures_closed c n = record { slot = c.slot; ticket = c.ticket; grade = c.grade; listed = n }
 
-is_closing : {a : AnswerHeld} {c : ClosingHeld} (T G : List ℕ) → a ≡ Closed c → length G ≡ length T → IsClosing a T G (figures_closed c (length T))
+pub is_closing : {a : AnswerHeld} {c : ClosingHeld} (T G : List ℕ) → a ≡ Closed c → length G ≡ length T → IsClosing a T G (figures_closed c (length T))
 is_closing {c = c} T G e n = record { short = c.shortfall; closed = e; listed = refl; as_many = n }
 
 -- where the answer fits

@@ -21,4 +21,4 @@ pub returns : goal.returns
 unfolding count_at cell tally_grades tally_most
 returns c =
     let a = c.args in
-    rw (← c.number.ensures) (sym (taken a.tally.now c.number.result a.grade (record { kind = omega (arith, kind_below a.kind); grade = omega arith }) c.if-n-ge-MOST.false))
+    rw (← c.number.ensures) (sym (taken a.tally.now c.number.result a.grade (record { kind = omega (arith, kind_below a.kind); grade = omega arith }) (omega arith)))
